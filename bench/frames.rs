@@ -8,7 +8,7 @@ use std::time::{Duration, Instant};
 #[path = "../tests/twin/frames.rs"]
 mod frames;
 
-use frames::{Entry, Message, FIELDS, LONGEST_TEXT};
+use frames::{FIELDS, LONGEST_TEXT};
 
 /// Both sides are called through pointers of one type, so neither is inlined.
 type Read = unsafe extern "C" fn(*const u8, usize, *mut u64) -> u8;
@@ -37,50 +37,58 @@ struct Input {
 }
 
 /// Several values of one shape, so that no branch learns a single one.
-const INPUTS: u32 = 32;
+const INPUTS: u64 = 32;
 
 /// Odd, so that the median is one round's reading.
 const ROUNDS: usize = 21;
 const ROUND: Duration = Duration::from_millis(6);
 
-fn input(m: Message) -> Input {
-    let mut room = [0; LONGEST_TEXT];
-    let length = frames::write(&m, &mut room).expect("a frame");
-    Input {
-        text: room[..length].to_vec(),
-        fields: frames::to_flat(&m),
-    }
+/// The text comes from the twin's measured function: a second caller of what
+/// lies below it would change what the compiler inlines there.
+fn input(fields: [u64; FIELDS]) -> Input {
+    let mut text = vec![0; LONGEST_TEXT];
+    let answer = unsafe { twin_write(fields.as_ptr(), text.as_mut_ptr(), text.len()) };
+    assert_eq!(answer, 0);
+    let end = text
+        .iter()
+        .position(|&byte| byte == b'\n')
+        .expect("a frame");
+    text.truncate(end + 1);
+    Input { text, fields }
 }
 
-fn append4(n: u32) -> Input {
-    let mut entries = [Entry::default(); 4];
-    for (i, entry) in (0..).zip(entries.iter_mut()) {
-        // An odd factor spreads the bits over all digits of the order.
-        let order = u64::from(4 * n + i + 1).wrapping_mul(0x9e37_79b9_7f4a_7c15);
-        *entry = Entry {
-            term: 1000 * n + i + 1,
-            order: order.to_be_bytes(),
-        };
-    }
-    input(Message::Append {
-        from: 1 + (n % 7) as u8,
-        to: 1 + (n / 7 % 7) as u8,
-        term: 1000 * n + 5,
-        previous_index: 7 * n as u16 + 1,
-        previous_term: 1000 * n + 1,
-        commit: 7 * n as u16,
-        count: 4,
-        entries,
-    })
+/// Bits spread over all digits of 8 bytes.
+fn spread(n: u64) -> u64 {
+    (n + 1).wrapping_mul(0x9e37_79b9_7f4a_7c15)
 }
 
-fn vote_answer(n: u32) -> Input {
-    input(Message::VoteAnswer {
-        from: 1 + (n % 7) as u8,
-        to: 1 + (n / 7 % 7) as u8,
-        term: (n + 1).wrapping_mul(0x9e37_79b9),
-        yes: (n % 2) as u8,
-    })
+fn append4(n: u64) -> Input {
+    let (from, to, term) = (1 + n % 7, 1 + n / 7 % 7, 1000 * n + 5);
+    let (previous_index, previous_term, commit) = (7 * n + 1, 1000 * n + 1, 7 * n);
+    let mut fields = [0; FIELDS];
+    fields[..9].copy_from_slice(&[
+        3,
+        from,
+        to,
+        term,
+        previous_index,
+        previous_term,
+        commit,
+        0,
+        4,
+    ]);
+    for (i, entry) in (0..).zip(fields[9..].chunks_exact_mut(2)) {
+        entry[0] = previous_term + i;
+        entry[1] = spread(4 * n + i);
+    }
+    input(fields)
+}
+
+fn vote_answer(n: u64) -> Input {
+    let mut fields = [0; FIELDS];
+    fields[..4].copy_from_slice(&[2, 1 + n % 7, 1 + n / 7 % 7, spread(n) >> 32]);
+    fields[7] = n % 2;
+    input(fields)
 }
 
 /// Calls over all inputs, `passes` times.
@@ -147,7 +155,7 @@ fn measure(name: &str, ours: &dyn Fn(u32), twin: &dyn Fn(u32)) {
     for _ in 0..ROUNDS {
         for ((run, passes), readings) in sides.iter().zip(&mut readings) {
             let nanos = time(run, *passes).as_nanos() as f64;
-            readings.push(nanos / f64::from(*passes) / f64::from(INPUTS));
+            readings.push(nanos / f64::from(*passes) / INPUTS as f64);
         }
     }
     let [ours, twin] = readings.map(|mut readings| {

@@ -545,14 +545,14 @@ fn compare_read(
     lent.extend_from_slice(r.of(&[b"\n\n\n\n\n\n\n\n", b"00000000", b"01\n01\n01"]));
     let before = lent.clone();
     let mut ours = [0; FIELDS + 2 * GUARD];
-    for (i, field) in ours.iter_mut().enumerate() {
-        *field = r.next() | i as u64;
-    }
+    ours.fill_with(|| r.next());
     let mut twin = ours;
     let place = GUARD..GUARD + FIELDS;
 
-    let our_answer =
-        unsafe { frame_read(lent.as_ptr(), bytes.len(), ours[place.clone()].as_mut_ptr()) };
+    let our_answer = unsafe {
+        let fields = ours.as_mut_ptr().add(GUARD);
+        frame_read(lent.as_mut_ptr(), bytes.len(), fields)
+    };
     let twin_fields: &mut Fields = (&mut twin[place.clone()]).try_into().expect("17 fields");
     let twin_answer = frames::flat_read(bytes, twin_fields);
 
@@ -581,10 +581,12 @@ fn compare_write(
     let mut ours: Vec<u8> = (0..length + 2 * GUARD).map(|_| r.next() as u8).collect();
     let mut twin = ours.clone();
     let place = GUARD..GUARD + length;
-    let lent = *f;
+    let mut lent = *f;
 
-    let our_answer =
-        unsafe { frame_write(lent.as_ptr(), ours[place.clone()].as_mut_ptr(), length) };
+    let our_answer = unsafe {
+        let room = ours.as_mut_ptr().add(GUARD);
+        frame_write(lent.as_mut_ptr(), room, length)
+    };
     let twin_answer = frames::flat_write(f, &mut twin[place.clone()]);
 
     if our_answer != twin_answer || ours != twin || lent != *f {

@@ -154,7 +154,7 @@ static DIGITS: [[u8; 2]; 256] = {
 };
 
 /// Takes fields off the front of a text; whether all of it was digits is asked
-/// once, at the end.
+/// once, at the end. Inlined, so that widths are constants at each use.
 struct Digits<'a> {
     left: &'a [u8],
     seen: u8,
@@ -257,6 +257,7 @@ pub fn read(bytes: &[u8]) -> Option<Message> {
 }
 
 /// Writes the bytes' digits; the text has room for them.
+#[inline(always)]
 fn encode<const N: usize>(bytes: [u8; N], text: &mut [u8]) {
     for (pair, byte) in text[..2 * N].chunks_exact_mut(2).zip(bytes) {
         pair.copy_from_slice(&DIGITS[usize::from(byte)]);

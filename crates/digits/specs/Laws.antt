@@ -59,6 +59,7 @@ big-endian-mod (suc w) n =
   where
     byte : 0 < 256
     byte = omega arith
+
     low : n % 256 < 256
     low = omega arith
 
@@ -110,7 +111,7 @@ unfolding field
 field-halves s at w h =
     rw (take-add (w + w) (w + w) (drop at s), drop-drop (w + w) at s, numeral-append)
     (numeral-shift (numeral 0 (take (w + w) (drop at s))) (take (w + w) (drop (at + (w + w)) s))
-      ∙ ap (λ (k : ℕ). numeral 0 (take (w + w) (drop at s)) * 16 ^ k + numeral 0 (take (w + w) (drop (at + (w + w)) s))) long)
+    ∙ ap (λ (k : ℕ). numeral 0 (take (w + w) (drop at s)) * 16 ^ k + numeral 0 (take (w + w) (drop (at + (w + w)) s))) long)
   where
     long : length (take (w + w) (drop (at + (w + w)) s)) ≡ w + w
     long = simp (length-take, length-drop) (omega arith)
@@ -141,7 +142,7 @@ spelt-digits zero n = refl
 spelt-digits (suc w) n =
     rw hex-append
     (all-digits-append (spelt w (n / 256)) _ (spelt-digits w (n / 256))
-      (simp (digit-is (n % 256 / 16) (omega arith), digit-is (n % 256 % 16) (omega arith))))
+    (simp (digit-is (n % 256 / 16) (omega arith), digit-is (n % 256 % 16) (omega arith))))
 
 -- ---- writing what was read
 
@@ -189,15 +190,23 @@ spelt-numeral (suc w) (c ∷ []) h d = absurd (omega (arith, suc-add w (suc w), 
 spelt-numeral (suc w) (c ∷ e ∷ ds) h d =
     rw (numeral-shift ((0 * 16 + worth c) * 16 + worth e) ds, long, sixteens w)
     (spelt-front w ((0 * 16 + worth c) * 16 + worth e) (numeral 0 ds) (omega (arith, worth-lt c, worth-lt e)) low
-      ∙ rw (high, last, digit-worth c (and-left (is-digit c) _ d), digit-worth e (and-left (is-digit e) _ (and-right (is-digit c) _ d)),
-            spelt-numeral w ds long (and-right (is-digit e) _ (and-right (is-digit c) _ d))))
+    ∙ rw (
+      high,
+      last,
+      digit-worth c (and-left (is-digit c) _ d),
+      digit-worth e (and-left (is-digit e) _ (and-right (is-digit c) _ d)),
+      spelt-numeral w ds long (and-right (is-digit e) _ (and-right (is-digit c) _ d)),
+    ))
   where
     high : ((0 * 16 + worth c) * 16 + worth e) / 16 ≡ worth c
     high = omega (arith, worth-lt e)
+
     last : ((0 * 16 + worth c) * 16 + worth e) % 16 ≡ worth e
     last = omega (arith, worth-lt e)
+
     long : length ds ≡ w + w
     long = omega (arith, suc-add w (suc w), add-suc w w)
+
     low : numeral 0 ds < 256 ^ w
     low = rw (long, sixteens w) at (numeral-lt ds)
 

@@ -21,10 +21,15 @@ pub over-over : (d : List ℕ) (at : ℕ) (a b : List ℕ) → at + length a + l
     → over (over d at a) (at + length a) b ≡ over d at (a ++ b)
 unfolding over
 over-over d at a b h =
-    rw (take-at (take at d ++ a) (drop (at + length a) d) (at + length a) front,
-        ← front,
-        drop-append-add (take at d ++ a) (drop (length (take at d ++ a)) d) (length b),
-        drop-drop, front, length-append a b, append-assoc (take at d) a b)
+    rw (
+      take-at (take at d ++ a) (drop (at + length a) d) (at + length a) front,
+      ← front,
+      drop-append-add (take at d ++ a) (drop (length (take at d ++ a)) d) (length b),
+      drop-drop,
+      front,
+      length-append a b,
+      append-assoc (take at d) a b,
+    )
     (rw (← add-assoc at (length a) (length b)))
   where
     front : length (take at d ++ a) ≡ at + length a
@@ -42,4 +47,4 @@ pub stored-halves : (w : ℕ) (d : List ℕ) {d₁ d₂ : List ℕ} (at n : ℕ)
 stored-halves w d {d₁} {d₂} at n h p q =
     q ∙ rw (p, spelt-halves w n, ← length-spelt w (n / 256 ^ w))
     (over-over d at (spelt w (n / 256 ^ w)) (spelt w (n % 256 ^ w))
-      (omega (arith, length-spelt w (n / 256 ^ w), length-spelt w (n % 256 ^ w))))
+    (omega (arith, length-spelt w (n / 256 ^ w), length-spelt w (n % 256 ^ w))))

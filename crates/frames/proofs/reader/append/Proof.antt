@@ -1,0 +1,60 @@
+-- Each field is read from its place, and there are as many entries as are counted.
+use borrow.Author.Needs.{needs}
+use Rattle.frames.specs.Reading.{append-in}
+use Rattle.frames.specs.Fields.{fields-of}
+use Rattle.frames.specs.ReadingLaws.{length-entries}
+use Rattle.frames.proofs.reader.append.Statement.{statement}
+use Rattle.frames.proofs.reader.append.Tie as tie
+
+get-u8-requires : tie.Need-get-u8-requires
+get-u8-requires c κs = search needs
+
+entries-requires : tie.Need-entries-requires
+entries-requires c κs = search needs
+
+get-u8-requires-2 : tie.Need-get-u8-requires-2
+get-u8-requires-2 c κs = search needs
+
+get-u8-requires-3 : tie.Need-get-u8-requires-3
+get-u8-requires-3 c κs = search needs
+
+get-u32-requires : tie.Need-get-u32-requires
+get-u32-requires c κs = search needs
+
+get-u16-requires : tie.Need-get-u16-requires
+get-u16-requires c κs = search needs
+
+get-u32-requires-2 : tie.Need-get-u32-requires-2
+get-u32-requires-2 c κs = search needs
+
+get-u16-requires-2 : tie.Need-get-u16-requires-2
+get-u16-requires-2 c κs = search needs
+
+returns : tie.Need-returns
+unfolding fields-of append-in
+returns c =
+    rw (
+      c .get-u162 .ensures,
+      c .before .get-u322 .ensures,
+      c .before .before .get-u16 .ensures,
+      c .before .before .before .get-u32 .ensures,
+      c .before .before .before .before .get-u83 .ensures,
+      c .before .before .before .before .before .get-u82 .ensures,
+      c .before .before .before .before .before .before .entries .ensures,
+      c .before .before .before .before .before .before .before .get-u8 .ensures,
+      length-entries,
+    )
+
+pub append-spec : {M : Type 1} → statement M
+append-spec =
+    tie.close
+    (tie.spec
+    get-u8-requires
+    entries-requires
+    get-u8-requires-2
+    get-u8-requires-3
+    get-u32-requires
+    get-u16-requires
+    get-u32-requires-2
+    get-u16-requires-2
+    returns)

@@ -1,0 +1,16 @@
+-- The clauses are the definition's own, each by its function.
+use borrow.Author.Needs.{needs}
+use Rattle.frames.proofs.rules.is_start.Statement.{statement}
+use Rattle.frames.proofs.rules.is_start.Tie as tie
+
+is-box-requires : tie.Need-is-box-requires
+is-box-requires c κs = search needs
+
+is-box-requires-2 : tie.Need-is-box-requires-2
+is-box-requires-2 c κs = search needs
+
+returns : tie.Need-returns
+returns c = cc
+
+pub is-start-spec : {M : Type 1} → statement M
+is-start-spec = tie.close (tie.spec is-box-requires is-box-requires-2 returns)

@@ -1,0 +1,71 @@
+-- What is proved of a frame's rules and fields, for the code's proofs and for 'one spelling'. Assumes nothing.
+use Prim.Native.Nat.{ℕ, zero, suc, _+_, _-_, _≤_, _<_}
+use native.Mathlib.Nat.{suc-sub-suc}
+use native.Mathlib.Numerals.{add-one}
+use native.Mathlib.Omega.{arith}
+use mathlib.Core.Path.{_≡_, refl, sym, ap, _∙_}
+use mathlib.Core.Bool.{Bool, true, false, cond, _&&_}
+use mathlib.Core.List.{List, [], _∷_, _++_}
+use lib.Dec.{eqb, leb}
+use lib.ListN.{length, getD}
+use Rattle.frames.specs.declared.Entry.{Entry}
+use borrow.Author.Tests.{ne-eqb}
+use Rattle.frames.specs.Message.{by-kind}
+use Rattle.frames.specs.Rules.{follows, in-order}
+use Rattle.frames.specs.Fields.{no-entry, listed}
+
+-- ---- by kind
+
+pub kind-1 : {A : Type 0} (k : ℕ) (a b c d : A) → k ≡ 1 → by-kind k a b c d ≡ a
+unfolding by-kind
+kind-1 k a b c d e = rw e
+
+pub kind-2 : {A : Type 0} (k : ℕ) (a b c d : A) → k ≡ 2 → by-kind k a b c d ≡ b
+unfolding by-kind
+kind-2 k a b c d e = rw e
+
+pub kind-3 : {A : Type 0} (k : ℕ) (a b c d : A) → k ≡ 3 → by-kind k a b c d ≡ c
+unfolding by-kind
+kind-3 k a b c d e = rw e
+
+pub kind-4 : {A : Type 0} (k : ℕ) (a b c d : A) → (k ≡ 1 → ⊥) → (k ≡ 2 → ⊥) → (k ≡ 3 → ⊥) → by-kind k a b c d ≡ d
+unfolding by-kind
+kind-4 k a b c d p q r = rw (ne-eqb k 1 p, ne-eqb k 2 q, ne-eqb k 3 r)
+
+-- ---- the entries of the struct, one by one
+
+pub length-listed : (es : List Entry) (at n : ℕ) → length (listed es at n) ≡ n
+unfolding listed
+length-listed es at zero = refl
+length-listed es at (suc n) = ap suc (length-listed es (suc at) n)
+
+-- the entries that are left at a place: the one there, and those behind it
+pub listed-next : (es : List Entry) (i n : ℕ) → i < n → listed es i (n - i) ≡ getD es i no-entry ∷ listed es (i + 1) (n - (i + 1))
+unfolding listed
+listed-next es i n h = ap (listed es i) left ∙ rw (add-one i)
+  where
+    left : n - i ≡ suc (n - (i + 1))
+    left = omega arith
+
+pub listed-end : (es : List Entry) (i n : ℕ) → n ≤ i → listed es i (n - i) ≡ []
+unfolding listed
+listed-end es i n h = ap (listed es i) done
+  where
+    done : n - i ≡ 0
+    done = omega arith
+
+-- ---- the entry rule over what is left
+
+pub in-order-next : (es : List Entry) (i n last term : ℕ) → i < n → follows last term (getD es i no-entry .term) ≡ true
+    → in-order last term (listed es i (n - i)) ≡ in-order (getD es i no-entry .term) term (listed es (i + 1) (n - (i + 1)))
+unfolding in-order
+in-order-next es i n last term h f = rw (listed-next es i n h, f)
+
+pub in-order-broken : (es : List Entry) (i n last term : ℕ) → i < n → follows last term (getD es i no-entry .term) ≡ false
+    → in-order last term (listed es i (n - i)) ≡ false
+unfolding in-order
+in-order-broken es i n last term h f = rw (listed-next es i n h, f)
+
+pub in-order-end : (es : List Entry) (i n last term : ℕ) → n ≤ i → in-order last term (listed es i (n - i)) ≡ leb last term
+unfolding in-order
+in-order-end es i n last term h = rw (listed-end es i n h)

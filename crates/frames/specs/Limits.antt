@@ -1,0 +1,14 @@
+-- 01's limits, each under one name. The code has them as constants of `Fields`. Assumes nothing.
+use Prim.Native.Nat.{ℕ}
+
+-- Boxes have the numbers 1 to 7.
+abbrev pub boxes : ℕ
+boxes = 7
+
+-- A log has at most 256 entries, so an index is at most 256.
+abbrev pub log-limit : ℕ
+log-limit = 256
+
+-- A frame or journal line carries at most 4 entries.
+abbrev pub entry-limit : ℕ
+entry-limit = 4

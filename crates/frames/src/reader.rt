@@ -1,0 +1,255 @@
+// Reading: any bytes at all, to the fields of the message or refusal 1.
+//
+// First the form (one line of digits, version, kind, length), then each field from its place, then the rules.
+use crate::Entry;
+use crate::Fields;
+use crate::Parsed;
+use crate::rules::obeys;
+ghost use mathlib.Core.Path.{_≡_};
+ghost use mathlib.Core.Bool.{true, _&&_};
+ghost use Prim.Native.Nat.{_+_, _*_, _≤_, _<_};
+ghost use lib.Dec.{eqb, leb};
+ghost use lib.ListN.{length, getD};
+ghost use Rattle.digits.specs.Digits.{field};
+ghost use Rattle.frames.specs.Fields.{no-entry, places, fields-of, no-fields, answer};
+ghost use Rattle.frames.specs.Reading as reading;
+
+// "Fixed parts by kind, in a constant table of lengths", in bytes.
+const LENGTHS: [u8; 5] = [0, 14, 9, 17, 11];
+
+// The bytes of a frame of a kind with so many entries.
+pub fn size(kind: u8, count: u8) -> usize
+    requires { ⌜ kind < 5 ⌝ }
+    ensures { λ r. ⌜ r ≡ reading.size kind count ⌝ }
+{
+    LENGTHS[kind as usize] as usize + 12 * count as usize
+}
+
+// The characters of so many bytes, with the line feed.
+pub fn text_size(bytes: usize) -> usize
+    requires { ⌜ bytes < 4096 ⌝ }
+    ensures { λ r. ⌜ r ≡ reading.text-size bytes ⌝ }
+{
+    2 * bytes + 1
+}
+
+// Digits, ended by one line feed, and nothing after it.
+fn is_line(s: &[u8]) -> bool
+    ensures { λ r. ⌜ r ≡ reading.is-line (now (s .entry)) ⌝ }
+{
+    let n = digits::digits_run(s);
+    if n < s.len() {
+        return (n + 1 == s.len()) & (s[n] == 10);
+    }
+    false
+}
+
+// One line, version 01, one of the four kinds.
+fn is_headed(s: &[u8]) -> bool
+    requires { ⌜ 19 ≤ length (now s) ⌝ }
+    ensures { λ r. ⌜ r ≡ reading.is-headed (now (s .entry)) ⌝ }
+{
+    let kind = digits::get_u8(s, 2);
+    is_line(s) & (digits::get_u8(s, 0) == 1) & (1 <= kind) & (kind <= 4)
+}
+
+// Only an append has a count, behind its commit.
+fn count(s: &[u8], kind: u8) -> u8
+    requires { ⌜ kind ≡ reading.kind (now s) ⌝ }
+    requires { ⌜ reading.text-size (reading.size kind 0) ≤ length (now s) ⌝ }
+    ensures { λ r. ⌜ r ≡ reading.count (now (s .entry)) ⌝ }
+{
+    if kind == 3 {
+        return digits::get_u8(s, 32);
+    }
+    0
+}
+
+// As long as its kind and count tell, with at most four entries.
+fn is_long(s: &[u8], kind: u8) -> bool
+    requires { ⌜ kind ≡ reading.kind (now s) ⌝ }
+    requires { ⌜ kind < 5 ⌝ }
+    ensures { λ r. ⌜ r ≡ (eqb (length (now (s .entry))) (reading.text-size (reading.size (reading.kind (now (s .entry))) (reading.count (now (s .entry))))) && leb (reading.count (now (s .entry))) 4) ⌝ }
+{
+    if s.len() < text_size(size(kind, 0)) {
+        return false;
+    }
+    let n = count(s, kind);
+    (s.len() == text_size(size(kind, n))) & (n as usize <= Fields::ENTRIES)
+}
+
+// The form of a frame, with at most four entries.
+fn is_readable(s: &[u8]) -> bool
+    ensures { λ r. ⌜ r ≡ reading.readable (now (s .entry)) ⌝ }
+{
+    if s.len() < 19 {
+        return false;
+    }
+    if is_headed(s) {
+        return is_long(s, digits::get_u8(s, 2));
+    }
+    false
+}
+
+// Four places for entries, with none in them.
+fn no_entries() -> [Entry; Fields::ENTRIES]
+    ensures { λ r. ⌜ r ≡ no-fields .entries ⌝ }
+{
+    let e = Entry { term: 0, order: 0 };
+    [e; Fields::ENTRIES]
+}
+
+fn vote_request(s: &[u8]) -> Fields
+    requires { ⌜ 29 ≤ length (now s) ⌝ }
+    ensures { λ r. ⌜ r ≡ fields-of (reading.vote-request-in (now (s .entry))) ⌝ }
+{
+    let entries = no_entries();
+    Fields {
+        kind: 1,
+        from: digits::get_u8(s, 4),
+        to: digits::get_u8(s, 6),
+        term: digits::get_u32(s, 8),
+        index: digits::get_u16(s, 16),
+        prior: digits::get_u32(s, 20),
+        commit: 0,
+        reply: 0,
+        count: 0,
+        entries,
+    }
+}
+
+fn vote_answer(s: &[u8]) -> Fields
+    requires { ⌜ 19 ≤ length (now s) ⌝ }
+    ensures { λ r. ⌜ r ≡ fields-of (reading.vote-answer-in (now (s .entry))) ⌝ }
+{
+    let entries = no_entries();
+    Fields {
+        kind: 2,
+        from: digits::get_u8(s, 4),
+        to: digits::get_u8(s, 6),
+        term: digits::get_u32(s, 8),
+        index: 0,
+        prior: 0,
+        commit: 0,
+        reply: digits::get_u8(s, 16),
+        count: 0,
+        entries,
+    }
+}
+
+fn append_answer(s: &[u8]) -> Fields
+    requires { ⌜ 23 ≤ length (now s) ⌝ }
+    ensures { λ r. ⌜ r ≡ fields-of (reading.append-answer-in (now (s .entry))) ⌝ }
+{
+    let entries = no_entries();
+    Fields {
+        kind: 4,
+        from: digits::get_u8(s, 4),
+        to: digits::get_u8(s, 6),
+        term: digits::get_u32(s, 8),
+        index: digits::get_u16(s, 18),
+        prior: 0,
+        commit: 0,
+        reply: digits::get_u8(s, 16),
+        count: 0,
+        entries,
+    }
+}
+
+// The entry at a place of the four: what stands there, or none past the count.
+fn entry(s: &[u8], at: usize, count: u8) -> Entry
+    requires { ⌜ at < 4 ⌝ }
+    requires { ⌜ 34 + 24 * count ≤ length (now s) ⌝ }
+    ensures { λ r. ⌜ r ≡ getD (reading.entries-at (now (s .entry)) 34 count) at no-entry ⌝ }
+{
+    if at < count as usize {
+        let place = 34 + 24 * at;
+        return Entry {
+            term: digits::get_u32(s, place),
+            order: digits::get_u64(s, place + 8),
+        };
+    }
+    Entry { term: 0, order: 0 }
+}
+
+fn entries(s: &[u8], count: u8) -> [Entry; Fields::ENTRIES]
+    requires { ⌜ 34 + 24 * count ≤ length (now s) ⌝ }
+    ensures { λ r. ⌜ r ≡ places (reading.entries-at (now (s .entry)) 34 count) ⌝ }
+{
+    let a = entry(s, 0, count);
+    let b = entry(s, 1, count);
+    let c = entry(s, 2, count);
+    let d = entry(s, 3, count);
+    [a, b, c, d]
+}
+
+fn append(s: &[u8]) -> Fields
+    requires { ⌜ 34 + 24 * field (now s) 32 1 ≤ length (now s) ⌝ }
+    ensures { λ r. ⌜ r ≡ fields-of (reading.append-in (now (s .entry))) ⌝ }
+{
+    let count = digits::get_u8(s, 32);
+    let entries = entries(s, count);
+    Fields {
+        kind: 3,
+        from: digits::get_u8(s, 4),
+        to: digits::get_u8(s, 6),
+        term: digits::get_u32(s, 8),
+        index: digits::get_u16(s, 16),
+        prior: digits::get_u32(s, 20),
+        commit: digits::get_u16(s, 28),
+        reply: 0,
+        count,
+        entries,
+    }
+}
+
+// The fields of the kind, each from its place.
+fn fields(s: &[u8]) -> Fields
+    requires { ⌜ reading.readable (now s) ≡ true ⌝ }
+    ensures { λ r. ⌜ r ≡ fields-of (reading.message-in (now (s .entry))) ⌝ }
+{
+    let kind = digits::get_u8(s, 2);
+    if kind == 1 {
+        return vote_request(s);
+    }
+    if kind == 2 {
+        return vote_answer(s);
+    }
+    if kind == 3 {
+        return append(s);
+    }
+    append_answer(s)
+}
+
+fn refused() -> Parsed
+    ensures { λ r. ⌜ r ≡ answer reading.refused ⌝ }
+{
+    let entries = no_entries();
+    let fields = Fields {
+        kind: 0,
+        from: 0,
+        to: 0,
+        term: 0,
+        index: 0,
+        prior: 0,
+        commit: 0,
+        reply: 0,
+        count: 0,
+        entries,
+    };
+    Parsed { refusal: 1, fields }
+}
+
+// The message that the bytes are, or refusal 1 exactly when they are not one frame.
+pub fn read(s: &[u8]) -> Parsed
+    ensures { λ r. ⌜ r ≡ answer (reading.reading (now (s .entry))) ⌝ }
+{
+    if !is_readable(s) {
+        return refused();
+    }
+    let fields = fields(s);
+    if obeys(fields) {
+        return Parsed { refusal: 0, fields };
+    }
+    refused()
+}
