@@ -7,3 +7,4 @@ pub mod Fields
 pub mod Writing
 pub mod Laws
 pub mod ReadingLaws
+pub mod WritingLaws

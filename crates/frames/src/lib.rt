@@ -1,8 +1,10 @@
 // 01's frames: a reader from any bytes to the fields of a message, and a writer into room that the caller lends.
 mod reader;
 mod rules;
+mod writer;
 
 pub use reader::read;
+pub use writer::write;
 
 // An entry of a log: the term it was made in and the order, its 8 bytes as one number, the first byte highest.
 pub struct Entry {

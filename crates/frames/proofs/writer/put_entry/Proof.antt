@@ -1,0 +1,38 @@
+-- Two fields, one behind the other.
+use borrow.Author.Needs.{needs}
+use native.Mathlib.Omega.{arith}
+use mathlib.Core.List.{[], _∷_}
+use native.Mathlib.Nat.{add-zero}
+use Rattle.frames.specs.Message
+use Rattle.frames.specs.Message.{number, entry-fields}
+use Rattle.frames.specs.WritingLaws.{put-next, put-none}
+use Rattle.frames.proofs.writer.put_entry.Statement.{statement}
+use Rattle.frames.proofs.writer.put_entry.Tie as tie
+
+put-u32-requires : tie.Need-put-u32-requires
+put-u32-requires c κs = search needs
+
+add-put-u64 : tie.Need-add-put-u64
+add-put-u64 c = search needs
+
+put-u64-requires : tie.Need-put-u64-requires
+put-u64-requires c κs = search needs
+
+same-length : tie.Need-same-length
+same-length c = search needs
+
+returns : tie.Need-returns
+unfolding entry-fields
+returns c =
+    let order = c .before .before in
+    let term = order .before .before .before .before in
+    let entered = term .before .before .before in
+    let d = entered .args .room .now in
+    let e = entered .args .e in
+    put-next d (entered .args .at) (number 4 (e .term) ∷ []) (Message.order (e .order)) (omega arith)
+    (put-next d (entered .args .at) [] (number 4 (e .term)) (omega arith) (put-none d (entered .args .at)) (rw add-zero (term .put-u32 .ensures)))
+    (order .put-u64 .ensures)
+
+pub put-entry-spec : {M : Type 1} → statement M
+put-entry-spec =
+    tie.close (tie.spec put-u32-requires add-put-u64 put-u64-requires same-length returns)

@@ -1,0 +1,59 @@
+-- Five fields, one behind the other.
+use borrow.Author.Needs.{needs}
+use native.Mathlib.Omega.{arith}
+use mathlib.Core.List.{[], _∷_}
+use Rattle.frames.specs.Message.{number}
+use Rattle.frames.specs.WritingLaws.{put-next, put-none}
+use Rattle.frames.proofs.writer.put_start.Statement.{statement}
+use Rattle.frames.proofs.writer.put_start.Tie as tie
+
+put-u8-requires : tie.Need-put-u8-requires
+put-u8-requires c κs = search needs
+
+put-u8-requires-2 : tie.Need-put-u8-requires-2
+put-u8-requires-2 c κs = search needs
+
+put-u8-requires-3 : tie.Need-put-u8-requires-3
+put-u8-requires-3 c κs = search needs
+
+put-u8-requires-4 : tie.Need-put-u8-requires-4
+put-u8-requires-4 c κs = search needs
+
+put-u32-requires : tie.Need-put-u32-requires
+put-u32-requires c κs = search needs
+
+same-length : tie.Need-same-length
+same-length c = search needs
+
+returns : tie.Need-returns
+returns c =
+    let term = c .before .before in
+    let to = term .before .before .before .before in
+    let from = to .before .before .before .before in
+    let kind = from .before .before .before .before in
+    let version = kind .before .before .before .before in
+    let entered = version .before .before .before in
+    let d = entered .args .room .now in
+    let f = entered .args .f in
+    let fields-1 = number 1 1 ∷ [] in
+    let fields-2 = number 1 1 ∷ number 1 (f .kind) ∷ [] in
+    let fields-3 = number 1 1 ∷ number 1 (f .kind) ∷ number 1 (f .from) ∷ [] in
+    let fields-4 = number 1 1 ∷ number 1 (f .kind) ∷ number 1 (f .from) ∷ number 1 (f .to) ∷ [] in
+    put-next d 0 fields-4 (number 4 (f .term)) (omega arith)
+    (put-next d 0 fields-3 (number 1 (f .to)) (omega arith)
+    (put-next d 0 fields-2 (number 1 (f .from)) (omega arith)
+    (put-next d 0 fields-1 (number 1 (f .kind)) (omega arith)
+    (put-next d 0 [] (number 1 1) (omega arith) (put-none d 0) (version .put-u8 .ensures))
+    (kind .put-u82 .ensures)) (from .put-u83 .ensures)) (to .put-u84 .ensures)) (term .put-u32 .ensures)
+
+pub put-start-spec : {M : Type 1} → statement M
+put-start-spec =
+    tie.close
+    (tie.spec
+    put-u8-requires
+    put-u8-requires-2
+    put-u8-requires-3
+    put-u8-requires-4
+    put-u32-requires
+    same-length
+    returns)

@@ -1,0 +1,52 @@
+-- The start, the fields of the kind, the line feed, one behind the other.
+use borrow.Author.Needs.{needs}
+use native.Mathlib.Omega.{arith}
+use mathlib.Core.List.{[], _∷_}
+use Rattle.frames.specs.Message.{vote-request, number, start, table}
+use Rattle.frames.specs.WritingLaws.{put-next, put-line}
+use Rattle.frames.proofs.writer.put_vote_request.Statement.{statement}
+use Rattle.frames.proofs.writer.put_vote_request.Tie as tie
+
+put-start-requires : tie.Need-put-start-requires
+put-start-requires c κs = search needs
+
+put-u16-requires : tie.Need-put-u16-requires
+put-u16-requires c κs = search needs
+
+put-u32-requires : tie.Need-put-u32-requires
+put-u32-requires c κs = search needs
+
+put-end-requires : tie.Need-put-end-requires
+put-end-requires c κs = search needs
+
+same-length : tie.Need-same-length
+same-length c = search needs
+
+returns : tie.Need-returns
+unfolding table
+returns c =
+    let end = c .before .before in
+    let prior = end .before .before .before .before in
+    let index = prior .before .before .before .before in
+    let begun = index .before .before .before .before in
+    let entered = begun .before .before .before in
+    let d = entered .args .room .now in
+    let f = entered .args .f in
+    put-line d (vote-request (f .from) (f .to) (f .term) (f .index) (f .prior)) (omega arith)
+    (put-next d 0 (start 1 (f .from) (f .to) (f .term) (number 2 (f .index) ∷ [])) (number 4 (f .prior)) (omega arith)
+    (put-next d 0 (start 1 (f .from) (f .to) (f .term) ([])) (number 2 (f .index)) (omega arith)
+    (rw (entered .pre .0) at (begun .put-start .ensures))
+    (index .put-u16 .ensures))
+    (prior .put-u32 .ensures))
+    (end .put-end .ensures)
+
+pub put-vote-request-spec : {M : Type 1} → statement M
+put-vote-request-spec =
+    tie.close
+    (tie.spec
+    put-start-requires
+    put-u16-requires
+    put-u32-requires
+    put-end-requires
+    same-length
+    returns)
