@@ -8,3 +8,5 @@ pub mod Writing
 pub mod Laws
 pub mod ReadingLaws
 pub mod WritingLaws
+pub mod SpellingLaws
+pub mod Spelling

@@ -1,0 +1,3 @@
+-- Messages as numbers, for callers in C and Rust.
+pub mod Flat
+pub mod Laws
