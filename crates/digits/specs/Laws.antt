@@ -3,26 +3,29 @@ use Prim.Native.Nat.{ℕ, zero, suc, _+_, _-_, _*_, _/_, _%_, _^_, _≤_, _<_}
 use native.Mathlib.Nat.{add-zero, add-suc, suc-add, zero-add, mul-zero, div-one, pow-zero, pow-suc, mod-lt, mod-eq-of-lt, div-div-eq-div-mul, div-lt-iff-lt-mul, mul-comm, mul-le-mul-right}
 use native.Mathlib.Numerals.{one-add, add-one}
 use native.Mathlib.Omega.{arith}
-use mathlib.Core.Path.{_≡_, refl, sym, ap, _∙_}
-use mathlib.Core.Bool.{Bool, true, false, cond, _&&_}
+use mathlib.Core.Path.{_≡_, refl, sym, ap, _∙_, subst}
+use mathlib.Core.Bool.{Bool, true, false, not, _&&_, _||_, Bool·beq, and-true, and-assoc}
 use mathlib.Core.List.{List, [], _∷_, _++_, append-assoc, append-nil}
-use lib.Dec.{eqb, ltb}
+use lib.Dec.{eqb, ltb, leb}
 use lib.Arith.{digits-div, digits-mod, mod-mul}
 use lib.ListN.{length, getD, take, drop, length-append, length-take, length-drop, drop-of-length-le}
-use lib.Seq.{drop-cons, drop-drop, take-add, length-take-le}
-use borrow.Author.Tests.{eqb-true, ltb-true}
+use lib.Seq.{split-at, drop-cons, drop-drop, take-add, length-take-le}
+use borrow.Author.Tests.{eqb-true, eqb-false, ltb-true}
 use Rattle.digits.specs.Digits.{digits, digit, place, is-digit, worth, hex, big-endian, spelt, numeral, field, run, all-digits}
-use Rattle.digits.specs.Tests.{and-left, and-right, and-both, at-each}
+use Rattle.digits.specs.Tests.{and-left, and-right, and-both, or-right, beq-true, at-each}
 
 -- ---- the sixteen characters
 
--- the place of a character by comparisons: 0 to 9 are 48 to 57, a to f are 97 to 102
-abbrev pub by-compare : ℕ → ℕ
-by-compare c = cond (ltb c 48) 16 (cond (ltb c 58) (c - 48) (cond (ltb c 97) 16 (cond (ltb c 103) (c - 87) 16)))
+-- the tests and the sum that the code makes, at every byte: 0 to 9 are 48 to 57, a to f are 97 to 102
+pub is-digit-by : (c : ℕ) → c < 256 → is-digit c ≡ ((leb 48 c && leb c 57) || (leb 97 c && leb c 102))
+unfolding is-digit place
+is-digit-by c h = beq-true _ _ (at-each (λ k. Bool·beq (is-digit k) ((leb 48 k && leb k 57) || (leb 97 k && leb k 102))) 256 refl c h)
 
-pub place-of : (c : ℕ) → c < 256 → place c digits ≡ by-compare c
-unfolding place
-place-of c h = eqb-true _ _ (at-each (λ k. eqb (place k digits) (by-compare k)) 256 refl c h)
+pub worth-by : (c : ℕ) → c < 256 → is-digit c ≡ true → worth c ≡ c % 16 + c / 64 * 9
+unfolding is-digit worth place
+worth-by c h d =
+    eqb-true _ _
+    (or-right (is-digit c) (eqb (worth c) (c % 16 + c / 64 * 9)) d (at-each (λ k. not (is-digit k) || eqb (worth k) (k % 16 + k / 64 * 9)) 256 refl c h))
 
 pub worth-digit : (n : ℕ) → n < 16 → worth (digit n) ≡ n
 unfolding worth place digit
@@ -161,7 +164,7 @@ digit-worth c h = rw (mod-eq-of-lt (ltb-true _ _ h)) (place-getD c digits (ltb-t
 
 sixteens : (w : ℕ) → 16 ^ (w + w) ≡ 256 ^ w
 sixteens zero = refl
-sixteens (suc w) = rw (suc-add, add-suc, pow-suc, pow-suc, pow-suc, sixteens w) (omega arith)
+sixteens (suc w) = rw (suc-add, add-suc, pow-suc 16 (suc (w + w)), pow-suc 16 (w + w), pow-suc 256 w, sixteens w) (omega arith)
 
 numeral-lt : (ds : List ℕ) → numeral 0 ds < 16 ^ length ds
 unfolding numeral
@@ -212,17 +215,39 @@ spelt-numeral (suc w) (c ∷ e ∷ ds) h d =
 
 -- ---- how many digits a text begins with
 
-pub run-on : (s : List ℕ) (i : ℕ) → i < length s → is-digit (getD s i 0) ≡ true → run (drop i s) ≡ suc (run (drop (i + 1) s))
+pub run-le : (s : List ℕ) → run s ≤ length s
 unfolding run
-run-on s i h d = rw (add-one i, drop-cons s i 0 h, d)
+run-le [] = omega arith
+run-le (c ∷ s) = go (is-digit c) refl (run-le s)
+  where
+    go : (b : Bool) → is-digit c ≡ b → run s ≤ length s → run (c ∷ s) ≤ suc (length s)
+    go true e rest = rw e (omega arith)
+    go false e rest = rw e (omega arith)
 
-pub run-off : (s : List ℕ) (i : ℕ) → i < length s → is-digit (getD s i 0) ≡ false → run (drop i s) ≡ 0
+-- what stands in the run is a digit
+pub run-at : (s : List ℕ) (i : ℕ) → i < run s → is-digit (getD s i 0) ≡ true
 unfolding run
-run-off s i h d = rw (drop-cons s i 0 h, d)
+run-at [] i h = absurd (omega arith)
+run-at (c ∷ s) zero h = go (is-digit c) refl h
+  where
+    go : (b : Bool) → is-digit c ≡ b → 0 < run (c ∷ s) → is-digit c ≡ true
+    go true e l = e
+    go false e l = absurd (omega (arith, rw e at l))
+run-at (c ∷ s) (suc i) h = go (is-digit c) refl (run-at s i)
+  where
+    go : (b : Bool) → is-digit c ≡ b → (i < run s → is-digit (getD s i 0) ≡ true) → is-digit (getD s i 0) ≡ true
+    go true e rest = rest (omega (arith, rw e at h))
+    go false e rest = absurd (omega (arith, rw e at h))
 
-pub run-end : (s : List ℕ) (i : ℕ) → length s ≤ i → run (drop i s) ≡ 0
-unfolding run
-run-end s i h = rw (drop-of-length-le s h)
+all-digits-suc : (s : List ℕ) (i : ℕ) → i < length s → all-digits (take (suc i) s) ≡ (all-digits (take i s) && is-digit (getD s i 0))
+unfolding all-digits
+all-digits-suc [] i h = absurd (omega arith)
+all-digits-suc (c ∷ s) zero h = and-true (is-digit c)
+all-digits-suc (c ∷ s) (suc i) h =
+    rw (all-digits-suc s i (omega arith)) (sym (and-assoc (is-digit c) (all-digits (take i s)) (is-digit (getD s i 0))))
+
+pub all-digits-more : (s : List ℕ) (i : ℕ) → i < length s → all-digits (take (i + 1) s) ≡ (all-digits (take i s) && is-digit (getD s i 0))
+all-digits-more s i h = rw (add-one i) (all-digits-suc s i h)
 
 -- the digits that a text begins with are digits
 pub run-digits : (s : List ℕ) → all-digits (take (run s) s) ≡ true
@@ -239,3 +264,73 @@ pub run-line : (ds : List ℕ) → all-digits ds ≡ true → (rest : List ℕ) 
 unfolding run all-digits is-digit place
 run-line [] d rest = refl
 run-line (c ∷ ds) d rest = rw (and-left (is-digit c) _ d, run-line ds (and-right (is-digit c) _ d) rest)
+
+-- digits up to a place and a line feed there: the run ends at that place
+run-there : (s : List ℕ) (n : ℕ) → length s ≡ n + 1 → all-digits (take n s) ≡ true → getD s n 0 ≡ 10 → run s ≡ n
+run-there s n l d e =
+    ap run whole ∙ run-line (take n s) d [] ∙ length-take-le n s (omega arith)
+  where
+    whole : s ≡ take n s ++ (10 ∷ [])
+    whole = split-at s n 0 (omega arith) ∙ rw (e, drop-of-length-le s {i = suc n} (omega arith))
+
+-- a text is one line exactly when all but the last of its characters are digits and the last is a line feed
+pub run-ends : (s : List ℕ) (n : ℕ) → length s ≡ n + 1
+    → (eqb (run s + 1) (length s) && eqb (getD s (run s) 0) 10) ≡ (all-digits (take n s) && eqb (getD s n 0) 10)
+run-ends s n l = go (eqb (run s + 1) (length s)) refl (all-digits (take n s)) refl (eqb (getD s n 0) 10) refl
+  where
+    go : (a : Bool) → eqb (run s + 1) (length s) ≡ a → (b : Bool) → all-digits (take n s) ≡ b → (c : Bool) → eqb (getD s n 0) 10 ≡ c
+        → (eqb (run s + 1) (length s) && eqb (getD s (run s) 0) 10) ≡ (all-digits (take n s) && eqb (getD s n 0) 10)
+    go true p b q c r =
+        let there : run s ≡ n = omega (arith, eqb-true (run s + 1) (length s) p) in
+        let digits : all-digits (take n s) ≡ true = rw there at (run-digits s) in
+        rw (p, digits, there)
+    go false p true q true r =
+        absurd (eqb-false (run s + 1) (length s) p (omega (arith, run-there s n l q (eqb-true (getD s n 0) 10 r))))
+    go false p true q false r = rw (p, q, r)
+    go false p false q c r = rw (p, q)
+
+-- ---- a part of a text's digits, and a field read off it
+
+-- each of two parts of digits is digits
+pub all-digits-left : (a b : List ℕ) → all-digits (a ++ b) ≡ true → all-digits a ≡ true
+unfolding all-digits
+all-digits-left [] b d = refl
+all-digits-left (c ∷ a) b d = and-both (is-digit c) _ (and-left (is-digit c) _ d) (all-digits-left a b (and-right (is-digit c) _ d))
+
+pub all-digits-right : (a b : List ℕ) → all-digits (a ++ b) ≡ true → all-digits b ≡ true
+unfolding all-digits
+all-digits-right [] b d = d
+all-digits-right (c ∷ a) b d = all-digits-right a b (and-right (is-digit c) _ d)
+
+module _ (s : List ℕ) (at : ℕ) where
+  -- any part of the digits that a text begins with is digits
+  pub within-digits : (n : ℕ) → at + n ≤ run s → all-digits (take n (drop at s)) ≡ true
+  within-digits n h =
+      all-digits-left _ _
+      (rw take-add at (all-digits-right (take at s) _ (rw take-add at front)))
+    where
+      split : run s ≡ at + (n + (run s - at - n))
+      split = omega arith
+
+      front : all-digits (take (at + (n + (run s - at - n))) s) ≡ true
+      front = subst (λ (k : ℕ). all-digits (take k s) ≡ true) split (run-digits s)
+
+  module _ (w : ℕ) (h : at + (w + w) ≤ run s) where
+    -- a field among the digits is written as it stands there
+    pub spelt-field : spelt w (field s at w) ≡ take (w + w) (drop at s)
+    unfolding field
+    spelt-field =
+        spelt-numeral w (take (w + w) (drop at s)) (simp (length-take, length-drop) (omega (arith, run-le s))) (within-digits (w + w) h)
+
+    -- and its number fits its bytes: it is the number that w bytes of it spell
+    pub field-lt : field s at w < 256 ^ w
+    unfolding field spelt
+    field-lt = rw (← low) (mod-lt _ pos)
+      where
+        pos : 0 < 256 ^ w
+        pos = powers-pos w
+
+        low : field s at w % 256 ^ w ≡ field s at w
+        low =
+            sym (numeral-spelt w (field s at w % 256 ^ w) (mod-lt _ pos))
+            ∙ rw (big-endian-mod w (field s at w)) (ap (numeral 0) spelt-field)

@@ -1,8 +1,8 @@
 -- Tests put together, and a test that antt computes at every number below a bound. Assumes nothing.
 use Prim.Native.Nat.{ℕ, zero, suc, _<_}
 use native.Mathlib.Omega.{arith}
-use mathlib.Core.Path.{_≡_, refl}
-use mathlib.Core.Bool.{Bool, true, false, _&&_}
+use mathlib.Core.Path.{_≡_, refl, sym}
+use mathlib.Core.Bool.{Bool, true, false, not, _&&_, _||_, Bool·beq}
 use lib.Dec.{eqb}
 use borrow.Author.Tests.{eqb-true, eqb-false}
 
@@ -18,6 +18,18 @@ and-right false false h = h
 pub and-both : (a b : Bool) → a ≡ true → b ≡ true → (a && b) ≡ true
 and-both true b p q = q
 and-both false b p q = p
+
+-- where `not a or b` passes and a does, b does
+pub or-right : (a b : Bool) → a ≡ true → (not a || b) ≡ true → b ≡ true
+or-right true b p h = h
+or-right false true p h = refl
+or-right false false p h = p
+
+pub beq-true : (a b : Bool) → Bool·beq a b ≡ true → a ≡ b
+beq-true true true h = refl
+beq-true true false h = sym h
+beq-true false true h = h
+beq-true false false h = refl
 
 -- the test at each number below a bound
 abbrev pub each-below : (ℕ → Bool) → ℕ → Bool

@@ -2,59 +2,49 @@
 //
 // A field of two, four or eight bytes is two fields of half its width, the high half first. So each width is two calls
 // of the one below it, and all of them rest on one law over the width (specs/Laws.antt).
+//
+// A table is copied to the stack where it is used, so the writers make it once for a field and lend it to the halves.
 ghost use mathlib.Core.Path.{_≡_};
+ghost use mathlib.Core.Bool.{true};
 ghost use Prim.Native.Nat.{_+_, _≤_, _<_};
 ghost use lib.ListN.{length};
-ghost use Rattle.digits.specs.Digits.{digits, digit, place, is-digit, worth, field, spelt, run};
+ghost use Rattle.digits.specs.Digits.{digits, is-digit, all-digits, worth, field, spelt, run};
 ghost use Rattle.digits.specs.Room.{over};
 
 // The sixteen digit characters.
 const DIGITS: [u8; 16] = *b"0123456789abcdef";
 
-// The character of a number below sixteen.
-fn digit(n: u8) -> u8
-    requires { ⌜ n < 16 ⌝ }
-    ensures { λ r. ⌜ r ≡ digit n ⌝ }
-{
-    DIGITS[n as usize]
-}
-
-// The place of a character among the sixteen, or 16 for what is no digit.
-fn place(c: u8) -> u8
-    ensures { λ r. ⌜ r ≡ place c digits ⌝ }
-{
-    if c < 48 {
-        return 16;
-    }
-    if c < 58 {
-        return c - 48;
-    }
-    if c < 97 {
-        return 16;
-    }
-    if c < 103 {
-        return c - 87;
-    }
-    16
-}
-
 // One of the sixteen characters, and nothing else, is a digit.
-pub fn is_digit(c: u8) -> bool
+fn is_digit(c: u8) -> bool
     ensures { λ r. ⌜ r ≡ is-digit c ⌝ }
 {
-    place(c) < 16
+    ((48 <= c) & (c <= 57)) | ((97 <= c) & (c <= 102))
 }
 
-// The number of a digit character; of any other, 0.
+// Nothing but digits. It looks at every character, with no way out early: so the compiler makes it some 16 at a time.
+pub fn all_digits(s: &[u8]) -> bool
+    ensures { λ r. ⌜ r ≡ all-digits (now (s .entry)) ⌝ }
+{
+    let mut ok = true;
+    let mut i = 0;
+    while i < s.len() {
+        ok = ok & is_digit(s[i]);
+        i += 1;
+    }
+    ok
+}
+
+// The number of a digit character.
 fn worth(c: u8) -> u8
+    requires { ⌜ is-digit c ≡ true ⌝ }
     ensures { λ r. ⌜ r ≡ worth c ⌝ }
 {
-    place(c) % 16
+    c % 16 + c / 64 * 9
 }
 
-// The field of one byte that starts at a place: two digits.
+// The field of one byte that starts at a place among the digits that a text begins with.
 pub fn get_u8(s: &[u8], at: usize) -> u8
-    requires { ⌜ at + 2 ≤ length (now s) ⌝ }
+    requires { ⌜ at + 2 ≤ run (now s) ⌝ }
     ensures { λ r. ⌜ r ≡ field (now (s .entry)) at 1 ⌝ }
 {
     worth(s[at]) * 16 + worth(s[at + 1])
@@ -62,7 +52,7 @@ pub fn get_u8(s: &[u8], at: usize) -> u8
 
 // The field of two bytes.
 pub fn get_u16(s: &[u8], at: usize) -> u16
-    requires { ⌜ at + 4 ≤ length (now s) ⌝ }
+    requires { ⌜ at + 4 ≤ run (now s) ⌝ }
     ensures { λ r. ⌜ r ≡ field (now (s .entry)) at 2 ⌝ }
 {
     get_u8(s, at) as u16 * 256 + get_u8(s, at + 2) as u16
@@ -70,7 +60,7 @@ pub fn get_u16(s: &[u8], at: usize) -> u16
 
 // The field of four bytes.
 pub fn get_u32(s: &[u8], at: usize) -> u32
-    requires { ⌜ at + 8 ≤ length (now s) ⌝ }
+    requires { ⌜ at + 8 ≤ run (now s) ⌝ }
     ensures { λ r. ⌜ r ≡ field (now (s .entry)) at 4 ⌝ }
 {
     get_u16(s, at) as u32 * 65536 + get_u16(s, at + 4) as u32
@@ -78,10 +68,47 @@ pub fn get_u32(s: &[u8], at: usize) -> u32
 
 // The field of eight bytes.
 pub fn get_u64(s: &[u8], at: usize) -> u64
-    requires { ⌜ at + 16 ≤ length (now s) ⌝ }
+    requires { ⌜ at + 16 ≤ run (now s) ⌝ }
     ensures { λ r. ⌜ r ≡ field (now (s .entry)) at 8 ⌝ }
 {
     get_u32(s, at) as u64 * 4294967296 + get_u32(s, at + 8) as u64
+}
+
+// Writes one byte's two digits, from the table lent, at a place of the room.
+fn spell_u8(table: &[u8; 16], room: &mut [u8], at: usize, n: u8)
+    requires { ⌜ now table ≡ digits ⌝ }
+    requires { ⌜ at + 2 ≤ length (now room) ⌝ }
+    ensures { λ _. ⌜ now (room .exit) ≡ over (now (room .entry)) at (spelt 1 n) ⌝ }
+{
+    room[at] = table[(n / 16) as usize];
+    room[at + 1] = table[(n % 16) as usize];
+}
+
+fn spell_u16(table: &[u8; 16], room: &mut [u8], at: usize, n: u16)
+    requires { ⌜ now table ≡ digits ⌝ }
+    requires { ⌜ at + 4 ≤ length (now room) ⌝ }
+    ensures { λ _. ⌜ now (room .exit) ≡ over (now (room .entry)) at (spelt 2 n) ⌝ }
+{
+    spell_u8(table, room, at, (n / 256) as u8);
+    spell_u8(table, room, at + 2, (n % 256) as u8);
+}
+
+fn spell_u32(table: &[u8; 16], room: &mut [u8], at: usize, n: u32)
+    requires { ⌜ now table ≡ digits ⌝ }
+    requires { ⌜ at + 8 ≤ length (now room) ⌝ }
+    ensures { λ _. ⌜ now (room .exit) ≡ over (now (room .entry)) at (spelt 4 n) ⌝ }
+{
+    spell_u16(table, room, at, (n / 65536) as u16);
+    spell_u16(table, room, at + 4, (n % 65536) as u16);
+}
+
+fn spell_u64(table: &[u8; 16], room: &mut [u8], at: usize, n: u64)
+    requires { ⌜ now table ≡ digits ⌝ }
+    requires { ⌜ at + 16 ≤ length (now room) ⌝ }
+    ensures { λ _. ⌜ now (room .exit) ≡ over (now (room .entry)) at (spelt 8 n) ⌝ }
+{
+    spell_u32(table, room, at, (n / 4294967296) as u32);
+    spell_u32(table, room, at + 8, (n % 4294967296) as u32);
 }
 
 // Writes a field of one byte at a place of the room.
@@ -89,8 +116,8 @@ pub fn put_u8(room: &mut [u8], at: usize, n: u8)
     requires { ⌜ at + 2 ≤ length (now room) ⌝ }
     ensures { λ _. ⌜ now (room .exit) ≡ over (now (room .entry)) at (spelt 1 n) ⌝ }
 {
-    room[at] = digit(n / 16);
-    room[at + 1] = digit(n % 16);
+    let table = DIGITS;
+    spell_u8(&table, room, at, n);
 }
 
 // Writes a field of two bytes.
@@ -98,8 +125,8 @@ pub fn put_u16(room: &mut [u8], at: usize, n: u16)
     requires { ⌜ at + 4 ≤ length (now room) ⌝ }
     ensures { λ _. ⌜ now (room .exit) ≡ over (now (room .entry)) at (spelt 2 n) ⌝ }
 {
-    put_u8(room, at, (n / 256) as u8);
-    put_u8(room, at + 2, (n % 256) as u8);
+    let table = DIGITS;
+    spell_u16(&table, room, at, n);
 }
 
 // Writes a field of four bytes.
@@ -107,8 +134,8 @@ pub fn put_u32(room: &mut [u8], at: usize, n: u32)
     requires { ⌜ at + 8 ≤ length (now room) ⌝ }
     ensures { λ _. ⌜ now (room .exit) ≡ over (now (room .entry)) at (spelt 4 n) ⌝ }
 {
-    put_u16(room, at, (n / 65536) as u16);
-    put_u16(room, at + 4, (n % 65536) as u16);
+    let table = DIGITS;
+    spell_u32(&table, room, at, n);
 }
 
 // Writes a field of eight bytes.
@@ -116,20 +143,6 @@ pub fn put_u64(room: &mut [u8], at: usize, n: u64)
     requires { ⌜ at + 16 ≤ length (now room) ⌝ }
     ensures { λ _. ⌜ now (room .exit) ≡ over (now (room .entry)) at (spelt 8 n) ⌝ }
 {
-    put_u32(room, at, (n / 4294967296) as u32);
-    put_u32(room, at + 8, (n % 4294967296) as u32);
-}
-
-// How many digits a text begins with.
-pub fn digits_run(s: &[u8]) -> usize
-    ensures { λ r. ⌜ r ≡ run (now (s .entry)) ⌝ }
-{
-    let mut i = 0;
-    while i < s.len() {
-        if !is_digit(s[i]) {
-            return i;
-        }
-        i += 1;
-    }
-    i
+    let table = DIGITS;
+    spell_u64(&table, room, at, n);
 }

@@ -5,8 +5,9 @@ pub mod Rules
 pub mod Reading
 pub mod Fields
 pub mod Writing
+pub mod Clauses
 pub mod Laws
 pub mod ReadingLaws
 pub mod WritingLaws
-pub mod SpellingLaws
 pub mod Spelling
+pub mod OneSpelling

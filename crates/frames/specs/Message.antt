@@ -1,5 +1,5 @@
 -- 01, 'Frames and journal lines': the four messages, and the text of each. Assumes nothing.
-use Prim.Native.Nat.{ℕ, zero, suc, _+_}
+use Prim.Native.Nat.{ℕ, _^_, _<_}
 use mathlib.Core.Bool.{cond}
 use mathlib.Core.List.{List, [], _∷_, _++_}
 use lib.Dec.{eqb}
@@ -51,6 +51,11 @@ table (append-answer from to term reply index) = start 4 from to term (number 1 
 unfoldable pub spell : List Field → List ℕ
 spell [] = []
 spell (f ∷ fs) = spelt (width f) (value f) ++ spell fs
+
+-- Each number fits the bytes of its field.
+unfoldable pub sized : List Field → Type 0
+sized [] = Unit {0}
+sized (f ∷ fs) = (value f < 256 ^ width f) × sized fs
 
 -- "ended by one line feed (0a)"
 abbrev pub line-feed : ℕ

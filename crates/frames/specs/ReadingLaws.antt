@@ -1,107 +1,158 @@
 -- What is proved of reading, for the reader's proofs and for 'one spelling'. Assumes nothing.
 use Prim.Native.Nat.{ℕ, zero, suc, _+_, _*_, _≤_, _<_}
-use native.Mathlib.Nat.{add-zero, zero-add, mul-zero, mul-suc, add-assoc}
+use native.Mathlib.Nat.{add-zero, mul-zero}
 use native.Mathlib.Omega.{arith}
 use mathlib.Core.Path.{_≡_, refl, sym, ap, _∙_}
 use mathlib.Core.Bool.{Bool, true, false, cond, _&&_, true≢false}
-use mathlib.Core.List.{List, [], _∷_, _++_}
-use lib.Dec.{eqb, ltb, leb}
-use lib.ListN.{length, getD}
-use borrow.Author.Tests.{eqb-true, eqb-false, leb-true, ne-eqb, eq-eqb, le-leb}
-use Rattle.digits.specs.Digits.{field}
+use mathlib.Core.List.{List, [], _∷_}
+use lib.Dec.{eqb, leb}
+use lib.ListN.{length, getD, take}
+use borrow.Author.Tests.{eqb-true, leb-true, ne-eqb, eq-eqb, le-leb}
+use Rattle.digits.specs.Digits.{field, run, all-digits}
+use Rattle.digits.specs.Laws.{run-ends}
 use Rattle.digits.specs.Tests.{and-left, and-right, and-both, at-each}
 use Rattle.frames.specs.declared.Entry.{Entry}
 use Rattle.frames.specs.declared.Fields.{Fields}
-use Rattle.frames.specs.declared.Parsed.{Parsed}
-use Rattle.frames.specs.Message.{Message, vote-request, vote-answer, append, append-answer, by-kind}
+use Rattle.frames.specs.Message.{Message, vote-request, vote-answer, append, append-answer, by-kind, line-feed}
 use Rattle.frames.specs.Rules.{is-start, is-index, is-pair, in-order, obeys}
-use Rattle.frames.specs.Reading.{Reading, frame, refused, lengths, size, text-size, is-line, version, kind, count, is-headed, shaped, readable, entry-at, entries-at, append-in, vote-request-in, vote-answer-in, append-answer-in, message-in, is-frame, reading}
-use Rattle.frames.specs.Fields.{no-entry, listed, message-of, places, fields-of, answer, no-fields}
-use Rattle.frames.specs.Laws.{kind-1, kind-2, kind-3, kind-4}
+use Rattle.frames.specs.Reading.{frame, refused, lengths, size, text-size, is-line, version, kind, count, is-headed, shaped, readable, entry-at, entries-at, append-in, vote-request-in, vote-answer-in, append-answer-in, message-in, is-frame, reading}
+use Rattle.frames.specs.Fields.{no-entry, listed, message-of, places, fields-of, answer}
+use Rattle.frames.specs.Clauses.{four}
+use Rattle.frames.specs.Laws.{at-kind, count-of}
 
 -- ---- the table of lengths, by a computed test
 
+-- no kind has more than 17 bytes before its entries
 pub longest : (k : ℕ) → k < 5 → getD lengths k 0 ≤ 17
 longest k h = leb-true _ _ (at-each (λ j. leb (getD lengths j 0) 17) 5 refl k h)
 
+-- nor less than 9
 shortest : (k : ℕ) → 1 ≤ k → k < 5 → 9 ≤ getD lengths k 0
 shortest zero l h = absurd (omega arith)
 shortest (suc k) l h = leb-true _ _ (at-each (λ j. leb 9 (getD lengths (suc j) 0)) 4 refl k (omega arith))
 
+-- so a frame's size is far from overflowing
 pub size-lt : (k n : ℕ) → k < 5 → n < 256 → size k n < 4096
 unfolding size
 size-lt k n h l = omega (arith, longest k h)
 
+-- at least 9
 pub size-least : (k n : ℕ) → 1 ≤ k → k < 5 → 9 ≤ size k n
 unfolding size
 size-least k n l h = omega (arith, shortest k l h)
 
+-- and at least that of its fixed part
 pub size-grows : (k n : ℕ) → size k 0 ≤ size k n
 unfolding size
 size-grows k n = omega arith
 
 -- ---- the count
 
+-- an append has its count at its place
 pub count-append : (s : List ℕ) → kind s ≡ 3 → count s ≡ field s 32 1
 unfolding count
 count-append s e = rw e
 
+-- and the other kinds have none
 pub count-none : (s : List ℕ) → (kind s ≡ 3 → ⊥) → count s ≡ 0
 unfolding count
 count-none s e = rw (ne-eqb _ _ e)
 
 -- ---- what the form says
 
+-- one line is digits up to its last character
+pub line-run : (s : List ℕ) → is-line s ≡ true → run s + 1 ≡ length s
+unfolding is-line
+line-run s h = eqb-true _ _ (and-left (eqb (run s + 1) (length s)) _ h)
+
+-- a text with no character is no line
+pub no-line : (s : List ℕ) → length s ≡ 0 → is-line s ≡ false
+unfolding is-line
+no-line s l = rw (ne-eqb (run s + 1) (length s) (omega arith))
+
+-- the test of the last character and of all before it is the test for a line
+pub line-by : (s : List ℕ) (n : ℕ) → length s ≡ n + 1 → is-line s ≡ (all-digits (take n s) && eqb (getD s n 0) 10)
+unfolding is-line
+line-by s n l = run-ends s n l
+
+-- a headed text is of one of the four kinds
 pub headed-kind : (s : List ℕ) → is-headed s ≡ true → (1 ≤ kind s) × (kind s < 5)
 unfolding is-headed
 headed-kind s h =
-    let front : Bool = is-line s && eqb (version s) 1 in
-    let least : 1 ≤ kind s = leb-true 1 (kind s) (and-right front (leb 1 (kind s)) (and-left (front && leb 1 (kind s)) (leb (kind s) 4) h)) in
-    let most : kind s ≤ 4 = leb-true (kind s) 4 (and-right (front && leb 1 (kind s)) (leb (kind s) 4) h) in
-    (least, omega arith)
+    let t = four (is-line s) (eqb (version s) 1) (leb 1 (kind s)) (leb (kind s) 4) h in
+    (leb-true 1 (kind s) (t .2), omega (arith, leb-true (kind s) 4 (t .3)))
 
--- the form of a frame, in facts
+-- The form of a frame, test by test.
 pub record Form (s : List ℕ) : Type 0 where
-  pub headed : is-headed s ≡ true
+  pub line : run s + 1 ≡ length s
+  pub ended : getD s (run s) 0 ≡ line-feed
+  pub one : version s ≡ 1
   pub least : 1 ≤ kind s
   pub most : kind s < 5
   pub long : length s ≡ text-size (size (kind s) (count s))
-  pub few : count s ≤ 4
 
-pub form : (s : List ℕ) → readable s ≡ true → Form s
-unfolding readable shaped
-form s h =
+-- it is the test that the reader makes: what has the form passes it
+pub form-shaped : (s : List ℕ) → Form s → shaped s ≡ true
+unfolding shaped is-headed is-line
+form-shaped s f =
+    rw (
+      eq-eqb _ _ (f .line),
+      eq-eqb _ _ (f .ended),
+      eq-eqb _ _ (f .one),
+      le-leb _ _ (f .least),
+      le-leb (kind s) 4 (omega arith),
+      eq-eqb _ _ (f .long),
+    )
+
+-- and what passes it has the form
+pub shaped-form : (s : List ℕ) → shaped s ≡ true → Form s
+unfolding shaped is-headed is-line
+shaped-form s h =
+    let headed = four (is-line s) (eqb (version s) 1) (leb 1 (kind s)) (leb (kind s) 4) (and-left (is-headed s) _ h) in
     record {
-      headed = and-left (is-headed s) _ (and-left (shaped s) _ h);
-      least = headed-kind s (and-left (is-headed s) _ (and-left (shaped s) _ h)) .0;
-      most = headed-kind s (and-left (is-headed s) _ (and-left (shaped s) _ h)) .1;
-      long = eqb-true _ _ (and-right (is-headed s) _ (and-left (shaped s) _ h));
-      few = leb-true _ _ (and-right (shaped s) _ h);
+      line = eqb-true _ _ (and-left (eqb (run s + 1) (length s)) _ (headed .0));
+      ended = eqb-true _ _ (and-right (eqb (run s + 1) (length s)) _ (headed .0));
+      one = eqb-true _ _ (headed .1);
+      least = headed-kind s (and-left (is-headed s) _ h) .0;
+      most = headed-kind s (and-left (is-headed s) _ h) .1;
+      long = eqb-true _ _ (and-right (is-headed s) _ h);
     }
 
-pub readable-long : (s : List ℕ) → readable s ≡ true → 19 ≤ length s
+-- what is readable has the form
+pub form : (s : List ℕ) → readable s ≡ true → Form s
+unfolding readable
+form s h = shaped-form s (and-left (shaped s) _ h)
+
+-- and at most four entries
+few-counted : (s : List ℕ) → readable s ≡ true → count s ≤ 4
+unfolding readable
+few-counted s h = leb-true _ _ (and-right (shaped s) _ h)
+
+-- so it has no fewer digits than the shortest kind
+pub readable-long : (s : List ℕ) → readable s ≡ true → 18 ≤ run s
 readable-long s h = omega (arith, form s h, size-least (kind s) (count s) (form s h .least) (form s h .most))
 
+-- and what is shorter is not readable
 pub unreadable : (s : List ℕ) → length s < 19 → readable s ≡ false
 unreadable s l = go (readable s) refl
   where
     go : (b : Bool) → readable s ≡ b → readable s ≡ false
-    go true e = absurd (omega (arith, readable-long s e))
+    go true e = absurd (omega (arith, readable-long s e, form s e .line))
     go false e = e
 
 -- the fixed part of its kind is there
-pub room-for : (k : ℕ) (s : List ℕ) → readable s ≡ true → kind s ≡ k → text-size (getD lengths k 0) ≤ length s
+pub room-for : (k : ℕ) (s : List ℕ) → readable s ≡ true → kind s ≡ k → 2 * getD lengths k 0 ≤ run s
 unfolding size
 room-for k s h e =
     let long : length s ≡ text-size (size k (count s)) = rw e at (form s h .long) in
-    omega arith
+    omega (arith, form s h .line)
 
 -- and so are an append's entries
-pub room-for-entries : (s : List ℕ) → readable s ≡ true → kind s ≡ 3 → 35 + 24 * field s 32 1 ≤ length s
+pub room-for-entries : (s : List ℕ) → readable s ≡ true → kind s ≡ 3 → 34 + 24 * field s 32 1 ≤ run s
 unfolding size
 room-for-entries s h e =
     let long : length s ≡ text-size (size 3 (field s 32 1)) = rw (e, count-append s e) at (form s h .long) in
-    omega arith
+    omega (arith, form s h .line)
 
 -- a kind that is none of the first three is the fourth
 pub last-kind : (s : List ℕ) → readable s ≡ true → (kind s ≡ 1 → ⊥) → (kind s ≡ 2 → ⊥) → (kind s ≡ 3 → ⊥) → kind s ≡ 4
@@ -109,11 +160,13 @@ last-kind s h a b c = omega (arith, form s h)
 
 -- ---- entries at their places
 
+-- as many entries are read as are asked for
 pub length-entries : (s : List ℕ) (at n : ℕ) → length (entries-at s at n) ≡ n
 unfolding entries-at
 length-entries s at zero = refl
 length-entries s at (suc n) = ap suc (length-entries s (at + 24) n)
 
+-- each at its place
 pub entry-there : (s : List ℕ) (at n i : ℕ) → i < n → getD (entries-at s at n) i no-entry ≡ entry-at s (at + 24 * i)
 unfolding entries-at
 entry-there s at zero i h = absurd (omega arith)
@@ -121,6 +174,7 @@ entry-there s at (suc n) zero h = rw (mul-zero, add-zero)
 entry-there s at (suc n) (suc i) h =
     entry-there s (at + 24) n i (omega arith) ∙ ap (entry-at s) (omega arith)
 
+-- and none behind the last
 pub entry-past : (s : List ℕ) (at n i : ℕ) → n ≤ i → getD (entries-at s at n) i no-entry ≡ no-entry
 unfolding entries-at
 entry-past s at zero i h = refl
@@ -129,13 +183,7 @@ entry-past s at (suc n) (suc i) h = entry-past s (at + 24) n i (omega arith)
 
 -- ---- the struct of a message tells that message
 
--- at most four entries
-abbrev pub few-entries : Message → Bool
-few-entries (vote-request a b c d e) = true
-few-entries (vote-answer a b c d) = true
-few-entries (append a b c d e f es) = leb (length es) 4
-few-entries (append-answer a b c d e) = true
-
+-- up to four entries are those of their places
 listed-places : (es : List Entry) → length es ≤ 4 → listed (places es) 0 (length es) ≡ es
 unfolding listed
 listed-places [] h = refl
@@ -145,58 +193,59 @@ listed-places (a ∷ b ∷ c ∷ []) h = refl
 listed-places (a ∷ b ∷ c ∷ d ∷ []) h = refl
 listed-places (a ∷ b ∷ c ∷ d ∷ e ∷ es) h = absurd (omega arith)
 
-pub told : (m : Message) → few-entries m ≡ true → message-of (fields-of m) ≡ m
+-- the fields of a message with at most four entries tell that message
+pub message-told : (m : Message) → count-of m ≤ 4 → message-of (fields-of m) ≡ m
 unfolding fields-of by-kind
-told (vote-request a b c d e) h = refl
-told (vote-answer a b c d) h = refl
-told (append a b c d e f es) h = ap (append a b c d e f) (listed-places es (leb-true (length es) 4 h))
-told (append-answer a b c d e) h = refl
+message-told (vote-request a b c d e) h = refl
+message-told (vote-answer a b c d) h = refl
+message-told (append a b c d e f es) h = ap (append a b c d e f) (listed-places es h)
+message-told (append-answer a b c d e) h = refl
 
-pub told-few : (m : Message) → few-entries m ≡ true → fields-of m .count ≤ 4
+-- and its count
+pub count-told : (m : Message) → fields-of m .count ≡ count-of m
 unfolding fields-of
-told-few (vote-request a b c d e) h = omega arith
-told-few (vote-answer a b c d) h = omega arith
-told-few (append a b c d e f es) h = leb-true (length es) 4 h
-told-few (append-answer a b c d e) h = omega arith
+count-told (vote-request a b c d e) = refl
+count-told (vote-answer a b c d) = refl
+count-told (append a b c d e f es) = refl
+count-told (append-answer a b c d e) = refl
 
-pub few-read : (s : List ℕ) → readable s ≡ true → few-entries (message-in s) ≡ true
-unfolding message-in by-kind vote-request-in vote-answer-in append-in append-answer-in
-few-read s h = go (eqb (kind s) 1) (eqb (kind s) 2) (eqb (kind s) 3) refl
-  where
-    go : (a b c : Bool) → eqb (kind s) 3 ≡ c
-        → few-entries (cond a (vote-request-in s) (cond b (vote-answer-in s) (cond c (append-in s) (append-answer-in s)))) ≡ true
-    go true b c e = refl
-    go false true c e = refl
-    go false false true e =
-        le-leb (length (entries-at s 34 (field s 32 1))) 4
-        (omega (arith, length-entries s 34 (field s 32 1), count-append s (eqb-true _ _ e), form s h .few))
-    go false false false e = refl
+-- as many entries are read as are counted
+count-read : (s : List ℕ) → Form s → count-of (message-in s) ≡ count s
+unfolding message-in by-kind count vote-request-in vote-answer-in append-in append-answer-in
+count-read s f =
+    at-kind (λ k. kind s ≡ k → count-of (message-in s) ≡ count s)
+    (λ e. rw e) (λ e. rw e) (λ e. rw e (length-entries s 34 _)) (λ e. rw e) (kind s) (f .least) (f .most) refl
 
--- a message that obeys has at most four entries
-obeys-few : (m : Message) → obeys m ≡ true → few-entries m ≡ true
-obeys-few (vote-request a b c d e) h = refl
-obeys-few (vote-answer a b c d) h = refl
+-- so what is readable tells at most four
+few-read : (s : List ℕ) → readable s ≡ true → count-of (message-in s) ≤ 4
+few-read s h = omega (arith, count-read s (form s h), few-counted s h)
+
+-- and so does a message that obeys
+pub obeys-few : (m : Message) → obeys m ≡ true → count-of m ≤ 4
+obeys-few (vote-request a b c d e) h = omega arith
+obeys-few (vote-answer a b c d) h = omega arith
 obeys-few (append a b c d e f es) h =
-    let front : Bool = is-start a b c && is-index d && is-pair d e && is-index f in
-    and-right front (leb (length es) 4)
-    (and-left (front && leb (length es) 4) (leb (d + length es) 256)
-    (and-left (front && leb (length es) 4 && leb (d + length es) 256) (in-order e c es) h))
-obeys-few (append-answer a b c d e) h = refl
+    leb-true (length es) 4
+    (four (is-start a b c && is-index d && is-pair d e && is-index f) (leb (length es) 4) (leb (d + length es) 256) (in-order e c es) h .1)
+obeys-few (append-answer a b c d e) h = omega arith
 
 -- ---- the reader's answers
 
 module _ (s : List ℕ) (f : Fields) (h : readable s ≡ true) (e : f ≡ fields-of (message-in s)) where
+  -- the fields that were read tell the message that is read
   tells : message-of f ≡ message-in s
-  tells = rw e (told (message-in s) (few-read s h))
+  tells = rw e (message-told (message-in s) (few-read s h))
 
+  -- with at most four entries
   pub read-few : f .count ≤ 4
-  read-few = rw e (told-few (message-in s) (few-read s h))
+  read-few = rw (e, count-told) (few-read s h)
 
   -- the fields that the form tells, where the rules hold, are the frame's
   pub read-frame : obeys (message-of f) ≡ true → record { refusal = 0; fields = f } ≡ answer (reading s)
   unfolding answer reading is-frame readable
   read-frame o = rw (and-left (shaped s) _ h, rw tells at o, e)
 
+  -- and where they do not, it is refused
   pub read-disobeys : obeys (message-of f) ≡ false → reading s ≡ refused
   unfolding reading is-frame readable
   read-disobeys o = rw (and-left (shaped s) _ h, rw tells at o)
@@ -204,22 +253,10 @@ module _ (s : List ℕ) (f : Fields) (h : readable s ≡ true) (e : f ≡ fields
 -- a frame has the form, and at most four entries
 pub frame-readable : (s : List ℕ) → is-frame s ≡ true → readable s ≡ true
 unfolding is-frame readable
-frame-readable s f = and-both (shaped s) _ (and-left (shaped s) _ f) (go (eqb (kind s) 3) refl)
-  where
-    obeyed : obeys (message-in s) ≡ true
-    obeyed = and-right (shaped s) _ f
-
-    read-append : kind s ≡ 3 → message-in s ≡ append-in s
-    read-append e = unfold message-in in kind-3 (kind s) _ _ _ _ e
-
-    few : kind s ≡ 3 → length (entries-at s 34 (field s 32 1)) ≤ 4
-    few e = unfold append-in in leb-true _ 4 (obeys-few (append-in s) (rw (read-append e) at obeyed))
-
-    go : (b : Bool) → eqb (kind s) 3 ≡ b → leb (count s) 4 ≡ true
-    go true e =
-        let k : kind s ≡ 3 = eqb-true _ _ e in
-        le-leb (count s) 4 (omega (arith, few k, length-entries s 34 (field s 32 1), count-append s k))
-    go false e = rw (count-none s (eqb-false _ _ e))
+frame-readable s f =
+    let form-true : shaped s ≡ true = and-left (shaped s) _ f in
+    let few : count-of (message-in s) ≤ 4 = obeys-few (message-in s) (and-right (shaped s) _ f) in
+    and-both (shaped s) _ form-true (le-leb (count s) 4 (omega (arith, count-read s (shaped-form s form-true))))
 
 -- so what has not is no frame
 pub read-unreadable : (s : List ℕ) → readable s ≡ false → reading s ≡ refused

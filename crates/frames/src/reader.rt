@@ -10,7 +10,7 @@ ghost use mathlib.Core.Bool.{true, _&&_};
 ghost use Prim.Native.Nat.{_+_, _*_, _≤_, _<_};
 ghost use lib.Dec.{eqb, leb};
 ghost use lib.ListN.{length, getD};
-ghost use Rattle.digits.specs.Digits.{field};
+ghost use Rattle.digits.specs.Digits.{field, run};
 ghost use Rattle.frames.specs.Fields.{no-entry, places, fields-of, no-fields, answer};
 ghost use Rattle.frames.specs.Reading as reading;
 
@@ -37,26 +37,27 @@ pub fn text_size(bytes: usize) -> usize
 fn is_line(s: &[u8]) -> bool
     ensures { λ r. ⌜ r ≡ reading.is-line (now (s .entry)) ⌝ }
 {
-    let n = digits::digits_run(s);
-    if n < s.len() {
-        return (n + 1 == s.len()) & (s[n] == 10);
+    if s.len() == 0 {
+        return false;
     }
-    false
+    let n = s.len() - 1;
+    digits::all_digits(&s[..n]) & (s[n] == 10)
 }
 
-// One line, version 01, one of the four kinds.
-fn is_headed(s: &[u8]) -> bool
-    requires { ⌜ 19 ≤ length (now s) ⌝ }
+// A line that has version 01 and one of the four kinds.
+fn is_headed(s: &[u8], kind: u8) -> bool
+    requires { ⌜ reading.is-line (now s) ≡ true ⌝ }
+    requires { ⌜ 18 ≤ run (now s) ⌝ }
+    requires { ⌜ kind ≡ reading.kind (now s) ⌝ }
     ensures { λ r. ⌜ r ≡ reading.is-headed (now (s .entry)) ⌝ }
 {
-    let kind = digits::get_u8(s, 2);
-    is_line(s) & (digits::get_u8(s, 0) == 1) & (1 <= kind) & (kind <= 4)
+    (digits::get_u8(s, 0) == 1) & (1 <= kind) & (kind <= 4)
 }
 
 // Only an append has a count, behind its commit.
 fn count(s: &[u8], kind: u8) -> u8
     requires { ⌜ kind ≡ reading.kind (now s) ⌝ }
-    requires { ⌜ reading.text-size (reading.size kind 0) ≤ length (now s) ⌝ }
+    requires { ⌜ 2 * reading.size kind 0 ≤ run (now s) ⌝ }
     ensures { λ r. ⌜ r ≡ reading.count (now (s .entry)) ⌝ }
 {
     if kind == 3 {
@@ -69,6 +70,7 @@ fn count(s: &[u8], kind: u8) -> u8
 fn is_long(s: &[u8], kind: u8) -> bool
     requires { ⌜ kind ≡ reading.kind (now s) ⌝ }
     requires { ⌜ kind < 5 ⌝ }
+    requires { ⌜ run (now s) + 1 ≡ length (now s) ⌝ }
     ensures { λ r. ⌜ r ≡ (eqb (length (now (s .entry))) (reading.text-size (reading.size (reading.kind (now (s .entry))) (reading.count (now (s .entry))))) && leb (reading.count (now (s .entry))) 4) ⌝ }
 {
     if s.len() < text_size(size(kind, 0)) {
@@ -85,8 +87,12 @@ fn is_readable(s: &[u8]) -> bool
     if s.len() < 19 {
         return false;
     }
-    if is_headed(s) {
-        return is_long(s, digits::get_u8(s, 2));
+    if !is_line(s) {
+        return false;
+    }
+    let kind = digits::get_u8(s, 2);
+    if is_headed(s, kind) {
+        return is_long(s, kind);
     }
     false
 }
@@ -100,7 +106,7 @@ fn no_entries() -> [Entry; Fields::ENTRIES]
 }
 
 fn vote_request(s: &[u8]) -> Fields
-    requires { ⌜ 29 ≤ length (now s) ⌝ }
+    requires { ⌜ 28 ≤ run (now s) ⌝ }
     ensures { λ r. ⌜ r ≡ fields-of (reading.vote-request-in (now (s .entry))) ⌝ }
 {
     let entries = no_entries();
@@ -119,7 +125,7 @@ fn vote_request(s: &[u8]) -> Fields
 }
 
 fn vote_answer(s: &[u8]) -> Fields
-    requires { ⌜ 19 ≤ length (now s) ⌝ }
+    requires { ⌜ 18 ≤ run (now s) ⌝ }
     ensures { λ r. ⌜ r ≡ fields-of (reading.vote-answer-in (now (s .entry))) ⌝ }
 {
     let entries = no_entries();
@@ -138,7 +144,7 @@ fn vote_answer(s: &[u8]) -> Fields
 }
 
 fn append_answer(s: &[u8]) -> Fields
-    requires { ⌜ 23 ≤ length (now s) ⌝ }
+    requires { ⌜ 22 ≤ run (now s) ⌝ }
     ensures { λ r. ⌜ r ≡ fields-of (reading.append-answer-in (now (s .entry))) ⌝ }
 {
     let entries = no_entries();
@@ -159,7 +165,7 @@ fn append_answer(s: &[u8]) -> Fields
 // The entry at a place of the four: what stands there, or none past the count.
 fn entry(s: &[u8], at: usize, count: u8) -> Entry
     requires { ⌜ at < 4 ⌝ }
-    requires { ⌜ 34 + 24 * count ≤ length (now s) ⌝ }
+    requires { ⌜ 34 + 24 * count ≤ run (now s) ⌝ }
     ensures { λ r. ⌜ r ≡ getD (reading.entries-at (now (s .entry)) 34 count) at no-entry ⌝ }
 {
     if at < count as usize {
@@ -173,7 +179,7 @@ fn entry(s: &[u8], at: usize, count: u8) -> Entry
 }
 
 fn entries(s: &[u8], count: u8) -> [Entry; Fields::ENTRIES]
-    requires { ⌜ 34 + 24 * count ≤ length (now s) ⌝ }
+    requires { ⌜ 34 + 24 * count ≤ run (now s) ⌝ }
     ensures { λ r. ⌜ r ≡ places (reading.entries-at (now (s .entry)) 34 count) ⌝ }
 {
     let a = entry(s, 0, count);
@@ -184,7 +190,7 @@ fn entries(s: &[u8], count: u8) -> [Entry; Fields::ENTRIES]
 }
 
 fn append(s: &[u8]) -> Fields
-    requires { ⌜ 34 + 24 * field (now s) 32 1 ≤ length (now s) ⌝ }
+    requires { ⌜ 34 + 24 * field (now s) 32 1 ≤ run (now s) ⌝ }
     ensures { λ r. ⌜ r ≡ fields-of (reading.append-in (now (s .entry))) ⌝ }
 {
     let count = digits::get_u8(s, 32);

@@ -2,7 +2,7 @@
 use borrow.Author.Needs.{needs}
 use native.Mathlib.Omega.{arith}
 use mathlib.Core.Path.{sym}
-use Rattle.digits.specs.Laws.{field-halves}
+use Rattle.digits.specs.Laws.{field-halves, run-le}
 use Rattle.digits.proofs.get_u16.Statement.{statement}
 use Rattle.digits.proofs.get_u16.Tie as tie
 
@@ -16,7 +16,7 @@ mul-result : tie.Need-mul-result
 mul-result c = search needs
 
 add-get-u8 : tie.Need-add-get-u8
-add-get-u8 c = search needs
+add-get-u8 c = omega (arith, run-le (c .before .before .args .s .now))
 
 get-u8-requires-2 : tie.Need-get-u8-requires-2
 get-u8-requires-2 c κs = search needs
@@ -30,7 +30,7 @@ add-result c = search needs
 returns : tie.Need-returns
 returns c =
     rw (c .before .get-u8 .ensures, c .get-u82 .ensures)
-    (sym (field-halves (c .before .before .before .args .s .now) (c .before .before .before .args .at) 1 (omega arith)))
+    (sym (field-halves (c .before .before .before .args .s .now) (c .before .before .before .args .at) 1 (omega (arith, run-le (c .before .before .before .args .s .now)))))
 
 pub get-u16-spec : {M : Type 1} → statement M
 get-u16-spec =

@@ -2,7 +2,7 @@
 use borrow.Author.Needs.{needs}
 use native.Mathlib.Omega.{arith}
 use mathlib.Core.Path.{sym}
-use Rattle.digits.specs.Laws.{field-halves}
+use Rattle.digits.specs.Laws.{field-halves, run-le}
 use Rattle.digits.proofs.get_u64.Statement.{statement}
 use Rattle.digits.proofs.get_u64.Tie as tie
 
@@ -16,7 +16,7 @@ mul-result : tie.Need-mul-result
 mul-result c = search needs
 
 add-get-u32 : tie.Need-add-get-u32
-add-get-u32 c = search needs
+add-get-u32 c = omega (arith, run-le (c .before .before .args .s .now))
 
 get-u32-requires-2 : tie.Need-get-u32-requires-2
 get-u32-requires-2 c κs = search needs
@@ -30,7 +30,7 @@ add-result c = search needs
 returns : tie.Need-returns
 returns c =
     rw (c .before .get-u32 .ensures, c .get-u322 .ensures)
-    (sym (field-halves (c .before .before .before .args .s .now) (c .before .before .before .args .at) 4 (omega arith)))
+    (sym (field-halves (c .before .before .before .args .s .now) (c .before .before .before .args .at) 4 (omega (arith, run-le (c .before .before .before .args .s .now)))))
 
 pub get-u64-spec : {M : Type 1} → statement M
 get-u64-spec =

@@ -1,15 +1,11 @@
--- The test is the definition's own.
-use borrow.Author.Needs.{needs}
-use Rattle.digits.specs.Digits.{is-digit}
+-- The comparisons agree with the sixteen characters at every byte (`is-digit-by`).
+use mathlib.Core.Path.{sym}
+use Rattle.digits.specs.Laws.{is-digit-by}
 use Rattle.digits.proofs.is_digit.Statement.{statement}
 use Rattle.digits.proofs.is_digit.Tie as tie
 
-place-requires : tie.Need-place-requires
-place-requires c κs = search needs
-
 returns : tie.Need-returns
-unfolding is-digit
-returns c = rw (c .place .ensures)
+returns c = sym (is-digit-by (c .args .c) (c .fits .c .fits))
 
 pub is-digit-spec : {M : Type 1} → statement M
-is-digit-spec = tie.close (tie.spec place-requires returns)
+is-digit-spec = tie.close (tie.spec returns)

@@ -1,15 +1,18 @@
--- The remainder is the definition's own.
+-- The sum agrees with the place among the sixteen at every digit (`worth-by`).
 use borrow.Author.Needs.{needs}
-use Rattle.digits.specs.Digits.{worth}
+use mathlib.Core.Path.{sym}
+use Rattle.digits.specs.Laws.{worth-by}
 use Rattle.digits.proofs.worth.Statement.{statement}
 use Rattle.digits.proofs.worth.Tie as tie
 
-place-requires : tie.Need-place-requires
-place-requires c κs = search needs
+mul-result : tie.Need-mul-result
+mul-result c = search needs
+
+add-result : tie.Need-add-result
+add-result c = search needs
 
 returns : tie.Need-returns
-unfolding worth
-returns c = rw (c .place .ensures)
+returns c = sym (worth-by (c .args .c) (c .fits .c .fits) (c .pre))
 
 pub worth-spec : {M : Type 1} → statement M
-worth-spec = tie.close (tie.spec place-requires returns)
+worth-spec = tie.close (tie.spec mul-result add-result returns)

@@ -1,9 +1,9 @@
 -- An append's fixed part reaches past its count; other kinds have none.
 use native.Mathlib.Omega.{arith}
-use Prim.Native.Nat.{_≤_}
+use Prim.Native.Nat.{_*_, _≤_}
 use mathlib.Core.Path.{sym, _∙_}
-use lib.ListN.{length}
-use Rattle.frames.specs.Reading.{size, text-size}
+use Rattle.digits.specs.Digits.{run}
+use Rattle.frames.specs.Reading.{size}
 use Rattle.frames.specs.ReadingLaws.{count-append, count-none}
 use Rattle.frames.proofs.reader.count.Statement.{statement}
 use Rattle.frames.proofs.reader.count.Tie as tie
@@ -11,7 +11,7 @@ use Rattle.frames.proofs.reader.count.Tie as tie
 get-u8-requires : tie.Need-get-u8-requires
 unfolding size
 get-u8-requires c κs =
-    let long : text-size (size 3 0) ≤ length (c .before .before .args .s .now) = rw (c .if1 .taken) at (c .before .before .pre .1) in
+    let long : 2 * size 3 0 ≤ run (c .before .before .args .s .now) = rw (c .if1 .taken) at (c .before .before .pre .1) in
     omega arith
 
 returns : tie.Need-returns

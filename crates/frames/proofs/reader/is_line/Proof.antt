@@ -1,31 +1,40 @@
--- The run of digits ends one before the end, at a line feed; a run to the very end has none.
+-- All but the last are digits and the last is a line feed: that is one line (`line-by`).
 use borrow.Author.Needs.{needs}
 use native.Mathlib.Omega.{arith}
-use Prim.Native.Nat.{_+_}
-use lib.ListN.{length}
-use borrow.Author.Tests.{ne-eqb}
-use Rattle.digits.specs.Digits.{run}
-use Rattle.frames.specs.Reading.{is-line}
+use Prim.Native.Nat.{_-_}
+use mathlib.Core.Path.{sym}
+use lib.ListN.{length, length-take}
+use Rattle.frames.specs.ReadingLaws.{no-line, line-by}
 use Rattle.frames.proofs.reader.is_line.Statement.{statement}
 use Rattle.frames.proofs.reader.is_line.Tie as tie
 
-digits-run-requires : tie.Need-digits-run-requires
-digits-run-requires c κs = search needs
+returns : tie.Need-returns
+returns c = sym (no-line (c .before .before .args .s .now) (c .if1 .taken))
 
-add-result : tie.Need-add-result
-add-result c = search needs
+sub-n : tie.Need-sub-n
+sub-n c = search needs
+
+slice-aggregate-all-digits : tie.Need-slice-aggregate-all-digits
+slice-aggregate-all-digits c = simp length-take (omega arith)
+
+all-digits-requires : tie.Need-all-digits-requires
+all-digits-requires c κs = search needs
 
 shared-slice-read-result : tie.Need-shared-slice-read-result
 shared-slice-read-result c = search needs
 
-returns : tie.Need-returns
-unfolding is-line
-returns c = rw (c .before .before .digits-run .ensures)
-
 returns-2 : tie.Need-returns-2
-unfolding is-line
-returns-2 c = rw (ne-eqb (run (c .before .before .before .args .s .now) + 1) (length (c .before .before .before .args .s .now)) (omega (arith, c .before .digits-run .ensures)))
+returns-2 c =
+    let s = c .before .before .before .before .before .args .s .now in
+    rw (c .before .all-digits .ensures) (sym (line-by s (length s - 1) (omega arith)))
 
 pub is-line-spec : {M : Type 1} → statement M
 is-line-spec =
-    tie.close (tie.spec digits-run-requires add-result shared-slice-read-result returns returns-2)
+    tie.close
+    (tie.spec
+    returns
+    sub-n
+    slice-aggregate-all-digits
+    all-digits-requires
+    shared-slice-read-result
+    returns-2)
