@@ -47,7 +47,9 @@ pub fn get_u8(s: &[u8], at: usize) -> u8
     requires { ⌜ at + 2 ≤ run (now s) ⌝ }
     ensures { λ r. ⌜ r ≡ field (now (s .entry)) at 1 ⌝ }
 {
-    worth(s[at]) * 16 + worth(s[at + 1])
+    let high = worth(s[at]);
+    let low = worth(s[at + 1]);
+    high * 16 + low
 }
 
 // The field of two bytes.
@@ -55,7 +57,9 @@ pub fn get_u16(s: &[u8], at: usize) -> u16
     requires { ⌜ at + 4 ≤ run (now s) ⌝ }
     ensures { λ r. ⌜ r ≡ field (now (s .entry)) at 2 ⌝ }
 {
-    get_u8(s, at) as u16 * 256 + get_u8(s, at + 2) as u16
+    let high = get_u8(s, at);
+    let low = get_u8(s, at + 2);
+    high as u16 * 256 + low as u16
 }
 
 // The field of four bytes.
@@ -63,7 +67,9 @@ pub fn get_u32(s: &[u8], at: usize) -> u32
     requires { ⌜ at + 8 ≤ run (now s) ⌝ }
     ensures { λ r. ⌜ r ≡ field (now (s .entry)) at 4 ⌝ }
 {
-    get_u16(s, at) as u32 * 65536 + get_u16(s, at + 4) as u32
+    let high = get_u16(s, at);
+    let low = get_u16(s, at + 4);
+    high as u32 * 65536 + low as u32
 }
 
 // The field of eight bytes.
@@ -71,7 +77,9 @@ pub fn get_u64(s: &[u8], at: usize) -> u64
     requires { ⌜ at + 16 ≤ run (now s) ⌝ }
     ensures { λ r. ⌜ r ≡ field (now (s .entry)) at 8 ⌝ }
 {
-    get_u32(s, at) as u64 * 4294967296 + get_u32(s, at + 8) as u64
+    let high = get_u32(s, at);
+    let low = get_u32(s, at + 8);
+    high as u64 * 4294967296 + low as u64
 }
 
 // Writes one byte's two digits, from the table lent, at a place of the room.

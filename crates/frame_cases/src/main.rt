@@ -4,6 +4,8 @@ use frames::Entry;
 use frames::Fields;
 use libc::STDIN_FILENO;
 use libc::STDOUT_FILENO;
+ghost use Prim.Native.Nat.{_≤_};
+ghost use lib.ListN.{length};
 
 fn space() {
     io::write_all(STDOUT_FILENO, b" ");
@@ -93,7 +95,10 @@ fn show(case: &[u8]) {
 }
 
 // Where the case that starts at a place ends, or the end where none does.
-fn case_end(s: &[u8], from: usize) -> usize {
+fn case_end(s: &[u8], from: usize) -> usize
+    requires { ⌜ from ≤ length (now s) ⌝ }
+    ensures { λ r. ⌜ (from ≤ r) × (r ≤ length (now (s .entry))) ⌝ }
+{
     let mut i = from;
     while i < s.len() {
         if s[i] == b';' {
@@ -102,12 +107,6 @@ fn case_end(s: &[u8], from: usize) -> usize {
         i += 1;
     }
     i
-}
-
-fn main() {
-    let mut space = io::large_buffer();
-    let n = io::read_full(STDIN_FILENO, &mut space);
-    show_all(&space[..n]);
 }
 
 fn show_all(s: &[u8]) {
@@ -119,4 +118,10 @@ fn show_all(s: &[u8]) {
         }
         from = end + 1;
     }
+}
+
+fn main() {
+    let mut space = io::large_buffer();
+    let n = io::read_full(STDIN_FILENO, &mut space);
+    show_all(&space[..n]);
 }

@@ -9,17 +9,17 @@ use Rattle.digits.proofs.get_u16.Tie as tie
 get-u8-requires : tie.Need-get-u8-requires
 get-u8-requires c κs = search needs
 
-cast-result : tie.Need-cast-result
-cast-result c = search needs
-
-mul-result : tie.Need-mul-result
-mul-result c = search needs
-
 add-get-u8 : tie.Need-add-get-u8
 add-get-u8 c = omega (arith, run-le (c .before .before .args .s .now))
 
 get-u8-requires-2 : tie.Need-get-u8-requires-2
 get-u8-requires-2 c κs = search needs
+
+cast-result : tie.Need-cast-result
+cast-result c = search needs
+
+mul-result : tie.Need-mul-result
+mul-result c = search needs
 
 cast-result-2 : tie.Need-cast-result-2
 cast-result-2 c = search needs
@@ -37,10 +37,10 @@ get-u16-spec =
     tie.close
     (tie.spec
     get-u8-requires
-    cast-result
-    mul-result
     add-get-u8
     get-u8-requires-2
+    cast-result
+    mul-result
     cast-result-2
     add-result
     returns)

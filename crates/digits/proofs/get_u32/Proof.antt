@@ -9,17 +9,17 @@ use Rattle.digits.proofs.get_u32.Tie as tie
 get-u16-requires : tie.Need-get-u16-requires
 get-u16-requires c κs = search needs
 
-cast-result : tie.Need-cast-result
-cast-result c = search needs
-
-mul-result : tie.Need-mul-result
-mul-result c = search needs
-
 add-get-u16 : tie.Need-add-get-u16
 add-get-u16 c = omega (arith, run-le (c .before .before .args .s .now))
 
 get-u16-requires-2 : tie.Need-get-u16-requires-2
 get-u16-requires-2 c κs = search needs
+
+cast-result : tie.Need-cast-result
+cast-result c = search needs
+
+mul-result : tie.Need-mul-result
+mul-result c = search needs
 
 cast-result-2 : tie.Need-cast-result-2
 cast-result-2 c = search needs
@@ -37,10 +37,10 @@ get-u32-spec =
     tie.close
     (tie.spec
     get-u16-requires
-    cast-result
-    mul-result
     add-get-u16
     get-u16-requires-2
+    cast-result
+    mul-result
     cast-result-2
     add-result
     returns)

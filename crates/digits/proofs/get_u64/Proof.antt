@@ -9,17 +9,17 @@ use Rattle.digits.proofs.get_u64.Tie as tie
 get-u32-requires : tie.Need-get-u32-requires
 get-u32-requires c κs = search needs
 
-cast-result : tie.Need-cast-result
-cast-result c = search needs
-
-mul-result : tie.Need-mul-result
-mul-result c = search needs
-
 add-get-u32 : tie.Need-add-get-u32
 add-get-u32 c = omega (arith, run-le (c .before .before .args .s .now))
 
 get-u32-requires-2 : tie.Need-get-u32-requires-2
 get-u32-requires-2 c κs = search needs
+
+cast-result : tie.Need-cast-result
+cast-result c = search needs
+
+mul-result : tie.Need-mul-result
+mul-result c = search needs
 
 cast-result-2 : tie.Need-cast-result-2
 cast-result-2 c = search needs
@@ -37,10 +37,10 @@ get-u64-spec =
     tie.close
     (tie.spec
     get-u32-requires
-    cast-result
-    mul-result
     add-get-u32
     get-u32-requires-2
+    cast-result
+    mul-result
     cast-result-2
     add-result
     returns)

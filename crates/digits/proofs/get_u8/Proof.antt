@@ -13,9 +13,6 @@ shared-slice-read-worth c = omega (arith, run-le (c .before .before .args .s .no
 worth-requires : tie.Need-worth-requires
 worth-requires c κs = run-at (c .before .before .args .s .now) (c .before .before .args .at) (omega arith)
 
-mul-result : tie.Need-mul-result
-mul-result c = omega (arith, c .worth .ensures, worth-lt (getD (c .before .before .before .args .s .now) (c .before .before .before .args .at) 0))
-
 add-worth : tie.Need-add-worth
 add-worth c = omega (arith, run-le (c .before .before .before .args .s .now))
 
@@ -24,6 +21,9 @@ shared-slice-read-worth-2 c = omega (arith, run-le (c .before .before .before .b
 
 worth-requires-2 : tie.Need-worth-requires-2
 worth-requires-2 c κs = run-at (c .before .before .before .before .args .s .now) (c .before .before .before .before .args .at + 1) (omega arith)
+
+mul-result : tie.Need-mul-result
+mul-result c = omega (arith, c .before .before .worth .ensures, c .worth2 .ensures, worth-lt (getD (c .before .before .before .before .before .args .s .now) (c .before .before .before .before .before .args .at) 0), worth-lt (getD (c .before .before .before .before .before .args .s .now) (c .before .before .before .before .before .args .at + 1) 0))
 
 add-result : tie.Need-add-result
 add-result c = omega (arith, c .before .before .worth .ensures, c .worth2 .ensures, worth-lt (getD (c .before .before .before .before .before .args .s .now) (c .before .before .before .before .before .args .at) 0), worth-lt (getD (c .before .before .before .before .before .args .s .now) (c .before .before .before .before .before .args .at + 1) 0))
@@ -37,9 +37,9 @@ get-u8-spec =
     (tie.spec
     shared-slice-read-worth
     worth-requires
-    mul-result
     add-worth
     shared-slice-read-worth-2
     worth-requires-2
+    mul-result
     add-result
     returns)
