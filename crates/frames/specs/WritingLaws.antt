@@ -99,15 +99,15 @@ pub chars-listed : (es : List Entry) (n : ℕ) → chars (entry-fields (listed e
 chars-listed es n = rw (chars-entries, length-listed)
 
 -- the entries up to a place are written: then the next
-pub put-entry-next : (d : List ℕ) {d₁ d₂ : List ℕ} (es : List Entry) (n : ℕ) → 34 + 24 * n + 24 ≤ length d
-    → d₁ ≡ over d 34 (spell (entry-fields (listed es 0 n)))
-    → d₂ ≡ over d₁ (34 + 24 * n) (spell (entry-fields (getD es n no-entry ∷ [])))
-    → d₂ ≡ over d 34 (spell (entry-fields (listed es 0 (n + 1))))
-put-entry-next d {d₁} es n h p q =
+pub put-entry-next : (d : List ℕ) {d₁ d₂ : List ℕ} (at : ℕ) (es : List Entry) (n : ℕ) → at + 24 * n + 24 ≤ length d
+    → d₁ ≡ over d at (spell (entry-fields (listed es 0 n)))
+    → d₂ ≡ over d₁ (at + 24 * n) (spell (entry-fields (getD es n no-entry ∷ [])))
+    → d₂ ≡ over d at (spell (entry-fields (listed es 0 (n + 1))))
+put-entry-next d {d₁} at es n h p q =
     rw (listed-more es n, entry-fields-append (listed es 0 n) (getD es n no-entry ∷ []))
-    (put-more d 34 (entry-fields (listed es 0 n)) (entry-fields (getD es n no-entry ∷ []))
+    (put-more d at (entry-fields (listed es 0 n)) (entry-fields (getD es n no-entry ∷ []))
     (omega (arith, chars-listed es n, chars-entries (getD es n no-entry ∷ [])))
-    p (q ∙ ap (λ (k : ℕ). over d₁ (34 + k) (spell (entry-fields (getD es n no-entry ∷ [])))) (sym (chars-listed es n))))
+    p (q ∙ ap (λ (k : ℕ). over d₁ (at + k) (spell (entry-fields (getD es n no-entry ∷ [])))) (sym (chars-listed es n))))
 
 -- ---- how long a frame is
 

@@ -4,6 +4,13 @@ mod rules;
 mod writer;
 
 pub use reader::read;
+pub use rules::follows;
+pub use writer::put_append;
+pub use writer::put_append_answer;
+pub use writer::put_end;
+pub use writer::put_entries;
+pub use writer::put_vote_answer;
+pub use writer::put_vote_request;
 pub use writer::write;
 
 // An entry of a log: the term it was made in and the order, its 8 bytes as one number, the first byte highest.

@@ -27,15 +27,16 @@ fn put_start(room: &mut [u8], f: Fields)
     digits::put_u32(room, 8, f.term);
 }
 
-// The line feed that ends a frame.
-fn put_end(room: &mut [u8], at: usize)
+// The line feed that ends a frame or a journal line.
+pub fn put_end(room: &mut [u8], at: usize)
     requires { ⌜ at < length (now room) ⌝ }
     ensures { λ _. ⌜ now (room .exit) ≡ over (now (room .entry)) at (10 ∷ []) ⌝ }
 {
     room[at] = 10;
 }
 
-fn put_vote_request(room: &mut [u8], f: Fields)
+// One function for each kind. They are inside calls: they ask for the room, and the fields may say anything.
+pub fn put_vote_request(room: &mut [u8], f: Fields)
     requires { ⌜ f .kind ≡ 1 ⌝ }
     requires { ⌜ 29 ≤ length (now room) ⌝ }
     ensures { λ _. ⌜ now (room .exit) ≡ over (now (room .entry)) 0 (text (vote-request (f .from) (f .to) (f .term) (f .index) (f .prior))) ⌝ }
@@ -46,7 +47,7 @@ fn put_vote_request(room: &mut [u8], f: Fields)
     put_end(room, 28);
 }
 
-fn put_vote_answer(room: &mut [u8], f: Fields)
+pub fn put_vote_answer(room: &mut [u8], f: Fields)
     requires { ⌜ f .kind ≡ 2 ⌝ }
     requires { ⌜ 19 ≤ length (now room) ⌝ }
     ensures { λ _. ⌜ now (room .exit) ≡ over (now (room .entry)) 0 (text (vote-answer (f .from) (f .to) (f .term) (f .reply))) ⌝ }
@@ -56,7 +57,7 @@ fn put_vote_answer(room: &mut [u8], f: Fields)
     put_end(room, 18);
 }
 
-fn put_append_answer(room: &mut [u8], f: Fields)
+pub fn put_append_answer(room: &mut [u8], f: Fields)
     requires { ⌜ f .kind ≡ 4 ⌝ }
     requires { ⌜ 23 ≤ length (now room) ⌝ }
     ensures { λ _. ⌜ now (room .exit) ≡ over (now (room .entry)) 0 (text (append-answer (f .from) (f .to) (f .term) (f .reply) (f .index))) ⌝ }
@@ -76,20 +77,21 @@ fn put_entry(room: &mut [u8], at: usize, e: Entry)
     digits::put_u64(room, at + 8, e.order);
 }
 
-fn put_entries(room: &mut [u8], entries: [Entry; Fields::ENTRIES], count: usize)
+// So many entries, one behind the other, from a place on. (An inside call: the journal's lines use it too.)
+pub fn put_entries(room: &mut [u8], at: usize, entries: [Entry; Fields::ENTRIES], count: usize)
     requires { ⌜ count ≤ 4 ⌝ }
-    requires { ⌜ 34 + 24 * count ≤ length (now room) ⌝ }
-    ensures { λ _. ⌜ now (room .exit) ≡ over (now (room .entry)) 34 (spell (entry-fields (listed entries 0 count))) ⌝ }
+    requires { ⌜ at + 24 * count ≤ length (now room) ⌝ }
+    ensures { λ _. ⌜ now (room .exit) ≡ over (now (room .entry)) at (spell (entry-fields (listed entries 0 count))) ⌝ }
 {
     let mut i = 0;
     while i < count {
         let e = entries[i];
-        put_entry(room, 34 + 24 * i, e);
+        put_entry(room, at + 24 * i, e);
         i += 1;
     }
 }
 
-fn put_append(room: &mut [u8], f: Fields)
+pub fn put_append(room: &mut [u8], f: Fields)
     requires { ⌜ f .kind ≡ 3 ⌝ }
     requires { ⌜ f .count ≤ 4 ⌝ }
     requires { ⌜ 35 + 24 * f .count ≤ length (now room) ⌝ }
@@ -102,7 +104,7 @@ fn put_append(room: &mut [u8], f: Fields)
     digits::put_u32(room, 20, f.prior);
     digits::put_u16(room, 28, f.commit);
     digits::put_u8(room, 32, count);
-    put_entries(room, entries, count as usize);
+    put_entries(room, 34, entries, count as usize);
     put_end(room, 34 + 24 * count as usize);
 }
 

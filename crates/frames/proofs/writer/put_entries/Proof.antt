@@ -12,14 +12,14 @@ use Rattle.frames.proofs.writer.put_entries.Statement.{statement}
 use Rattle.frames.proofs.writer.put_entries.Tie as tie
 
 abbrev Inv-loop : tie.InvT-loop
-Inv-loop room₀ count entries i₀ room i = (i ≤ count) × (room ≡ over room₀ 34 (spell (entry-fields (listed entries 0 i)))) × (length room ≡ length room₀)
+Inv-loop room₀ at count entries i₀ room i = (i ≤ count) × (room ≡ over room₀ at (spell (entry-fields (listed entries 0 i)))) × (length room ≡ length room₀)
 
 abbrev μ-loop : tie.MeasureT-loop
-μ-loop room₀ count entries i₀ room i = count - i
+μ-loop room₀ at count entries i₀ room i = count - i
 
 loop-holds : tie.Need-loop-holds Inv-loop μ-loop
 unfolding entry-fields listed
-loop-holds c = (search needs, put-none _ 34, refl)
+loop-holds c = (search needs, put-none _ _, refl)
 
 mul-e : tie.Need-mul-e Inv-loop μ-loop
 mul-e c = search needs
@@ -48,7 +48,7 @@ loop-again c =
     let turn = stored .before .before .before .before in
     let entered = turn .before .before in (
       omega arith,
-      put-entry-next (entered .args .room .now) (entered .args .t2) (turn .loop .i) (omega arith) (turn .loop .inv .1) (stored .put-entry .ensures),
+      put-entry-next (entered .args .room .now) (entered .args .at) (entered .args .t3) (turn .loop .i) (omega arith) (turn .loop .inv .1) (stored .put-entry .ensures),
       stored .put-entry .kept .0 ∙ turn .loop .inv .2,
     )
 
@@ -60,7 +60,7 @@ returns c =
     let turn = c .before in
     let entered = turn .before .before in
     let all : turn .loop .i ≡ entered .args .count = omega arith in
-    turn .loop .inv .1 ∙ ap (λ (k : ℕ). over (entered .args .room .now) 34 (spell (entry-fields (listed (entered .args .t2) 0 k)))) all
+    turn .loop .inv .1 ∙ ap (λ (k : ℕ). over (entered .args .room .now) (entered .args .at) (spell (entry-fields (listed (entered .args .t3) 0 k)))) all
 
 pub put-entries-spec : {M : Type 1} → statement M
 put-entries-spec =
