@@ -258,7 +258,7 @@ pub fn read(bytes: &[u8]) -> Option<Message> {
 
 /// Writes the bytes' digits; the text has room for them.
 #[inline(always)]
-fn encode<const N: usize>(bytes: [u8; N], text: &mut [u8]) {
+pub fn encode<const N: usize>(bytes: [u8; N], text: &mut [u8]) {
     for (pair, byte) in text[..2 * N].chunks_exact_mut(2).zip(bytes) {
         pair.copy_from_slice(&DIGITS[usize::from(byte)]);
     }

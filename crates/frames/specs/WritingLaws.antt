@@ -60,12 +60,16 @@ unfolding spell
 put-next d at fs f h p q = put-more d at fs (f ∷ []) (omega arith) p (q ∙ rw append-nil)
 
 -- all fields, and then the line feed
+pub put-ended : (d : List ℕ) {d₁ d₂ : List ℕ} (fs : List Field) → suc (chars fs) ≤ length d
+    → d₁ ≡ over d 0 (spell fs) → d₂ ≡ over d₁ (chars fs) (10 ∷ []) → d₂ ≡ over d 0 (spell fs ++ (10 ∷ []))
+put-ended d fs h p q =
+    q ∙ rw (p, ← length-spell fs, ← zero-add (length (spell fs))) (over-over d 0 (spell fs) (10 ∷ []) (omega (arith, length-spell fs)))
+
+-- so a frame
 pub put-line : (d : List ℕ) {d₁ d₂ : List ℕ} (m : Message) → suc (chars (table m)) ≤ length d
     → d₁ ≡ over d 0 (spell (table m)) → d₂ ≡ over d₁ (chars (table m)) (10 ∷ []) → d₂ ≡ over d 0 (text m)
 unfolding text
-put-line d m h p q =
-    q ∙ rw (p, ← length-spell (table m), ← zero-add (length (spell (table m))))
-    (over-over d 0 (spell (table m)) (10 ∷ []) (omega (arith, length-spell (table m))))
+put-line d m h p q = put-ended d (table m) h p q
 
 -- one character stored
 pub stored-one : (d : List ℕ) (at c : ℕ) → at < length d → set d at c ≡ over d at (c ∷ [])

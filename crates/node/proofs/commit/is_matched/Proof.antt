@@ -1,0 +1,19 @@
+-- The test is the definition's own.
+use borrow.Author.Needs.{needs}
+use mathlib.Core.Path.{_∙_}
+use Rattle.node.specs.Commit.{is-matched}
+use Rattle.node.proofs.commit.is_matched.Statement.{statement}
+use Rattle.node.proofs.commit.is_matched.Tie as tie
+
+matching-requires : tie.Need-matching-requires
+matching-requires c κs = search needs
+
+is-majority-requires : tie.Need-is-majority-requires
+is-majority-requires c κs = search needs
+
+returns : tie.Need-returns
+unfolding is-matched
+returns c = c .is-majority .ensures ∙ rw (c .before .matching .ensures)
+
+pub is-matched-spec : {M : Type 1} → statement M
+is-matched-spec = tie.close (tie.spec matching-requires is-majority-requires returns)

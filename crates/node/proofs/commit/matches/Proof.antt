@@ -1,0 +1,31 @@
+-- The definition's two cases; the struct counts its log's entries.
+use borrow.Author.Needs.{needs}
+use borrow.Author.Tests.{eq-eqb, ne-eqb}
+use Rattle.node.specs.Commit.{matches}
+use Rattle.node.specs.CallLaws.{length-entries-of}
+use Rattle.node.proofs.commit.matches.Statement.{statement}
+use Rattle.node.proofs.commit.matches.Tie as tie
+
+returns : tie.Need-returns
+unfolding matches
+returns c = rw (eq-eqb _ _ (c .if1 .taken), length-entries-of)
+
+sub-at : tie.Need-sub-at
+sub-at c = search needs
+
+cast-at : tie.Need-cast-at
+cast-at c = search needs
+
+mul-result : tie.Need-mul-result
+mul-result c = search needs
+
+element-copy-out-result : tie.Need-element-copy-out-result
+element-copy-out-result c = search needs
+
+returns-2 : tie.Need-returns-2
+unfolding matches
+returns-2 c = rw (ne-eqb _ _ (c .before .if1 .left))
+
+pub matches-spec : {M : Type 1} → statement M
+matches-spec =
+    tie.close (tie.spec returns sub-at cast-at mul-result element-copy-out-result returns-2)

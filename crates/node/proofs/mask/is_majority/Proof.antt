@@ -1,0 +1,18 @@
+-- The test is the definition's own; a byte has at most eight ones.
+use native.Mathlib.Omega.{arith}
+use mathlib.Core.Path.{refl}
+use lib.Bits.{bitAnd, and-lt}
+use lib.Count.{ones-le}
+use Rattle.node.specs.Majority.{majority}
+use Rattle.node.proofs.mask.is_majority.Statement.{statement}
+use Rattle.node.proofs.mask.is_majority.Tie as tie
+
+mul-result : tie.Need-mul-result
+mul-result c = omega (arith, ones-le 8 (bitAnd (c .args .agreed) (c .args .members)) (and-lt 8 _ _ (c .fits .agreed .fits) (c .fits .members .fits)))
+
+returns : tie.Need-returns
+unfolding majority
+returns c = refl
+
+pub is-majority-spec : {M : Type 1} → statement M
+is-majority-spec = tie.close (tie.spec mul-result returns)

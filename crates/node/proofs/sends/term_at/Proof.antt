@@ -1,0 +1,30 @@
+-- The entry at an index is the lent one (`term-there`).
+use borrow.Author.Needs.{needs}
+use native.Mathlib.Omega.{arith}
+use mathlib.Core.Path.{ap, sym, _∙_}
+use Rattle.node.specs.SizeLaws.{term-there, term-none}
+use Rattle.node.proofs.sends.term_at.Statement.{statement}
+use Rattle.node.proofs.sends.term_at.Tie as tie
+
+returns : tie.Need-returns
+returns c = λ orders last h. rw (c .if1 .taken) (sym (term-none _))
+
+sub-result : tie.Need-sub-result
+sub-result c = search needs
+
+cast-result : tie.Need-cast-result
+cast-result c = search needs
+
+mul-result : tie.Need-mul-result
+mul-result c = search needs
+
+shared-slice-read-result : tie.Need-shared-slice-read-result
+shared-slice-read-result c = search needs
+
+returns-2 : tie.Need-returns-2
+returns-2 c = λ orders last h. sym (term-there (c .before .before .args .terms .now) orders last (c .before .before .args .index) (omega arith) h)
+
+pub term-at-spec : {M : Type 1} → statement M
+term-at-spec =
+    tie.close
+    (tie.spec returns sub-result cast-result mul-result shared-slice-read-result returns-2)

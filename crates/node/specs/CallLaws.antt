@@ -1,0 +1,126 @@
+-- What is proved of the lent log and of the struct, for the code's proofs. Assumes nothing.
+use Prim.Native.Nat.{ℕ, zero, suc, _+_, _-_, _*_, _/_, _%_, _^_, _≤_, _<_}
+use native.Mathlib.Numerals.{add-one}
+use native.Mathlib.Omega.{arith}
+use mathlib.Core.Path.{_≡_, refl, sym, ap, _∙_}
+use mathlib.Core.Bool.{Bool, true, false, cond, _&&_, and-true, and-false}
+use mathlib.Core.List.{List, [], _∷_, _++_}
+use lib.Dec.{eqb, ltb, leb}
+use lib.ListN.{length, getD}
+use borrow.Author.Tests.{eqb-true, leb-true, le-leb, lt-leb}
+use Rattle.digits.specs.Tests.{at-each, and-left, and-right}
+use Rattle.frames.specs.declared.Entry.{Entry}
+use Rattle.frames.specs.Rules.{is-box, follows, in-order}
+use Rattle.node.specs.declared.Node.{Node}
+use Rattle.node.specs.Majority.{bit, holds}
+use Rattle.node.specs.Record.{State, last-index, is-sent-to, sends-to, is-membership, is-vote, is-role, are-votes, good}
+use Rattle.node.specs.RecordLaws.{box-range}
+use Rattle.node.specs.Step.{Outcome}
+use Rattle.node.specs.Calls.{entries-of, state-of, bare, untouched, run, call}
+
+-- the bit of a box, as a shift makes it
+pub bit-shift : (i : ℕ) → i ≤ 7 → 1 * 2 ^ (i - 1) % 256 ≡ bit i
+bit-shift i h = eqb-true _ _ (at-each (λ k. eqb (1 * 2 ^ (k - 1) % 256) (bit k)) 8 refl i (omega arith))
+
+-- the lent log has as many entries as the struct counts
+pub length-entries-of : (terms orders : List ℕ) (at n : ℕ) → length (entries-of terms orders at n) ≡ n
+unfolding entries-of
+length-entries-of terms orders at zero = refl
+length-entries-of terms orders at (suc n) = ap suc (length-entries-of terms orders (suc at) n)
+
+-- the entries that are left at a place: the one there, and those behind it
+entries-next : (terms orders : List ℕ) (i n : ℕ) → i < n
+    → entries-of terms orders i (n - i) ≡ record { term = getD terms i 0; order = getD orders i 0 } ∷ entries-of terms orders (i + 1) (n - (i + 1))
+unfolding entries-of
+entries-next terms orders i n h = ap (entries-of terms orders i) left ∙ rw (add-one i)
+  where
+    left : n - i ≡ suc (n - (i + 1))
+    left = omega arith
+
+entries-end : (terms orders : List ℕ) (i n : ℕ) → n ≤ i → entries-of terms orders i (n - i) ≡ []
+unfolding entries-of
+entries-end terms orders i n h = ap (entries-of terms orders i) done
+  where
+    done : n - i ≡ 0
+    done = omega arith
+
+-- the entry rule over what is left
+pub order-next : (terms : List ℕ) (i n last term : ℕ) → i < n → follows last term (getD terms i 0) ≡ true
+    → in-order last term (entries-of terms [] i (n - i)) ≡ in-order (getD terms i 0) term (entries-of terms [] (i + 1) (n - (i + 1)))
+unfolding in-order
+order-next terms i n last term h f = rw (entries-next terms [] i n h, f)
+
+pub order-broken : (terms : List ℕ) (i n last term : ℕ) → i < n → follows last term (getD terms i 0) ≡ false
+    → in-order last term (entries-of terms [] i (n - i)) ≡ false
+unfolding in-order
+order-broken terms i n last term h f = rw (entries-next terms [] i n h, f)
+
+pub order-end : (terms : List ℕ) (i n last term : ℕ) → n ≤ i → in-order last term (entries-of terms [] i (n - i)) ≡ leb last term
+unfolding in-order
+order-end terms i n last term h = rw (entries-end terms [] i n h)
+
+-- ---- the record's rules
+
+-- the rules of next and match, in the code's order
+abbrev pub are-sent : State → Bool
+are-sent s = is-sent-to s 1 && is-sent-to s 2 && is-sent-to s 3 && is-sent-to s 4 && is-sent-to s 5 && is-sent-to s 6 && is-sent-to s 7
+
+-- seven tests behind another are one test behind it
+seven : (x a b c d e f g : Bool) → (x && a && b && c && d && e && f && g) ≡ (x && (a && b && c && d && e && f && g))
+seven true a b c d e f g = refl
+seven false a b c d e f g = refl
+
+-- the entry rule does not look at the orders
+order-terms : (terms orders : List ℕ) (at n last term : ℕ) → in-order last term (entries-of terms orders at n) ≡ in-order last term (entries-of terms [] at n)
+unfolding in-order entries-of
+order-terms terms orders at zero last term = refl
+order-terms terms orders at (suc n) last term =
+    ap (λ (b : Bool). follows last term (getD terms at 0) && b) (order-terms terms orders (suc at) n (getD terms at 0) term)
+
+-- a record whose membership is none, or whose log is too long, is not good; of another the rest decides
+pub good-by : (b : Node) (terms orders : List ℕ) → is-membership (b .me) (b .members) ≡ true → b .last ≤ 256
+    → good (state-of b terms orders)
+    ≡ (is-vote (b .members) (b .vote) && in-order 0 (b .term) (entries-of terms [] 0 (b .last)) && leb (b .commit) (b .last)
+    && is-role (b .role) (b .term) (b .vote) (b .me) && are-votes (b .role) (b .votes) (b .members) (b .me) && are-sent (bare b))
+unfolding good sends-to
+good-by b terms orders m l =
+    let s : State = state-of b terms orders in
+    seven
+    (is-membership (b .me) (b .members) && is-vote (b .members) (b .vote) && leb (last-index s) 256 && in-order 0 (b .term) (s .log)
+    && leb (b .commit) (last-index s) && is-role (b .role) (b .term) (b .vote) (b .me) && are-votes (b .role) (b .votes) (b .members) (b .me))
+    (is-sent-to s 1) (is-sent-to s 2) (is-sent-to s 3) (is-sent-to s 4) (is-sent-to s 5) (is-sent-to s 6) (is-sent-to s 7)
+    ∙ rw (
+      m,
+      length-entries-of terms orders 0 (b .last),
+      length-entries-of [] [] 0 (b .last),
+      le-leb (b .last) 256 l,
+      and-true (is-vote (b .members) (b .vote)),
+      order-terms terms orders 0 (b .last) 0 (b .term),
+    )
+
+pub not-good-membership : (b : Node) (terms orders : List ℕ) → is-membership (b .me) (b .members) ≡ false → good (state-of b terms orders) ≡ false
+unfolding good
+not-good-membership b terms orders m = rw m
+
+pub not-good-long : (b : Node) (terms orders : List ℕ) → 256 < b .last → good (state-of b terms orders) ≡ false
+unfolding good
+not-good-long b terms orders l =
+    rw (length-entries-of terms orders 0 (b .last), lt-leb (b .last) 256 l, and-false (is-membership (b .me) (b .members) && is-vote (b .members) (b .vote)))
+
+-- a membership's own box is one of seven
+pub membership-box : (me members : ℕ) → is-membership me members ≡ true → (1 ≤ me) × (me ≤ 7)
+unfolding is-membership
+membership-box me members h =
+    box-range me (and-left (is-box me) (ltb members 128) (and-left (is-box me && ltb members 128) (holds members me) h))
+
+-- ---- calls
+
+pub call-bad : (event : State → Outcome) (b : Node) (terms orders journal room : List ℕ) → good (state-of b terms orders) ≡ false
+    → untouched 12 b terms orders journal room ≡ call event b terms orders journal room
+unfolding call
+call-bad event b terms orders journal room h = rw h
+
+pub call-good : (event : State → Outcome) (b : Node) (terms orders journal room : List ℕ) → good (state-of b terms orders) ≡ true
+    → run (event (state-of b terms orders)) b terms orders journal room ≡ call event b terms orders journal room
+unfolding call
+call-good event b terms orders journal room h = rw h

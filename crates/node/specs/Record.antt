@@ -1,0 +1,103 @@
+-- 01, 'The box's record': what a box holds, the fresh box, and the rules that a record keeps. Assumes nothing.
+use Prim.Native.Nat.{ℕ, zero, suc, _+_, _-_}
+use mathlib.Core.Bool.{Bool, true, false, cond, _&&_, _||_}
+use mathlib.Core.List.{List, [], _∷_}
+use lib.Dec.{eqb, ltb, leb}
+use lib.ListN.{length, getD, take}
+use Rattle.frames.specs.declared.Entry.{Entry}
+use Rattle.frames.specs.Limits.{boxes, log-limit}
+use Rattle.frames.specs.Rules.{is-box, in-order}
+use Rattle.frames.specs.Fields.{no-entry}
+use Rattle.node.specs.Majority.{holds, within}
+
+-- Roles, by number.
+abbrev pub follower : ℕ
+follower = 0
+
+abbrev pub candidate : ℕ
+candidate = 1
+
+abbrev pub leader : ℕ
+leader = 2
+
+-- Stored: term, vote, log. Not stored: role, votes got, commit, next and match for each box (box i at place i-1).
+pub record State : Type 0 where
+  pub me : ℕ
+  pub members : ℕ
+  pub term : ℕ
+  pub vote : ℕ
+  pub log : List Entry
+  pub commit : ℕ
+  pub role : ℕ
+  pub votes : ℕ
+  pub next : List ℕ
+  pub matched : List ℕ
+
+-- "indexes from 1": the last index, and the term of the entry at an index, 0 at the start.
+abbrev pub last-index : State → ℕ
+last-index s = length (s .log)
+
+unfoldable pub term-at : List Entry → ℕ → ℕ
+term-at log zero = 0
+term-at log (suc i) = getD log i no-entry .term
+
+abbrev pub last-term : State → ℕ
+last-term s = term-at (s .log) (last-index s)
+
+-- What is kept for box i.
+abbrev pub of-box : List ℕ → ℕ → ℕ
+of-box list i = getD list (i - 1) 0
+
+-- Another member.
+unfoldable pub is-other : ℕ → ℕ → ℕ → Bool
+is-other me members i = cond (eqb i me) false (holds members i)
+
+-- Seven zeros: next and match of a box that does not lead.
+abbrev pub none-sent : List ℕ
+none-sent = 0 ∷ 0 ∷ 0 ∷ 0 ∷ 0 ∷ 0 ∷ 0 ∷ []
+
+-- "A fresh box stands in term 0, has voted for nobody, has an empty log and is a follower."
+unfoldable pub fresh : ℕ → ℕ → State
+fresh me members =
+    record { me = me; members = members; term = 0; vote = 0; log = []; commit = 0; role = follower; votes = 0; next = none-sent; matched = none-sent }
+
+-- ---- the rules, in 01's order
+
+-- "bit 7 is 0, the mask is not 0 and holds the box itself"
+unfoldable pub is-membership : ℕ → ℕ → Bool
+is-membership me members = is-box me && ltb members 128 && holds members me
+
+-- "vote, 0 or a member"
+unfoldable pub is-vote : ℕ → ℕ → Bool
+is-vote members vote = eqb vote 0 || (is-box vote && holds members vote)
+
+-- "Commit is at most the last index." "A candidate or leader has voted for itself, in a term of at least 1."
+unfoldable pub is-role : ℕ → ℕ → ℕ → ℕ → Bool
+is-role role term vote me = eqb role follower || (leb role leader && eqb vote me && leb 1 term)
+
+-- "Votes are 0 unless candidate, then members with itself among them."
+unfoldable pub are-votes : ℕ → ℕ → ℕ → ℕ → Bool
+are-votes role votes members me = cond (eqb role candidate) (within votes members && holds votes me) (eqb votes 0)
+
+-- "Next and match are 0 unless leader, and 0 for itself and non-members; for the others match is below next, and next is at most
+-- last index + 1."
+unfoldable pub is-sent : Bool → ℕ → ℕ → ℕ → Bool
+is-sent sends last next matched = cond sends (ltb matched next && leb next (last + 1)) (eqb next 0 && eqb matched 0)
+
+unfoldable pub sends-to : State → ℕ → Bool
+sends-to s i = eqb (s .role) leader && is-other (s .me) (s .members) i
+
+abbrev pub is-sent-to : State → ℕ → Bool
+is-sent-to s i = is-sent (sends-to s i) (last-index s) (of-box (s .next) i) (of-box (s .matched) i)
+
+-- Every rule of a record.
+unfoldable pub good : State → Bool
+good s =
+    is-membership (s .me) (s .members) && is-vote (s .members) (s .vote) && leb (last-index s) log-limit
+    && in-order 0 (s .term) (s .log) && leb (s .commit) (last-index s) && is-role (s .role) (s .term) (s .vote) (s .me)
+    && are-votes (s .role) (s .votes) (s .members) (s .me)
+    && is-sent-to s 1 && is-sent-to s 2 && is-sent-to s 3 && is-sent-to s 4 && is-sent-to s 5 && is-sent-to s 6 && is-sent-to s 7
+
+-- "Handed out: entries 1 to commit."
+unfoldable pub handed-out : State → List Entry
+handed-out s = take (s .commit) (s .log)

@@ -1,0 +1,70 @@
+// The outside calls, on the lent log as slices: each looks at the record first, and answers 12 where it breaks a rule.
+use crate::Handed;
+use crate::Node;
+use crate::Step;
+use crate::events::refused;
+use crate::events::run_order;
+use crate::events::run_prompt;
+use crate::events::run_timeout;
+use crate::record::is_good;
+ghost use mathlib.Core.Path.{_≡_};
+ghost use lib.ListN.{length};
+ghost use Rattle.node.specs.Step.{timeout, prompt};
+ghost use Rattle.node.specs.Step.{order as ordering};
+ghost use Rattle.node.specs.Calls.{Called, call, handed};
+
+pub fn timeout(n: Node, terms: &[u32], orders: &[u64], journal: &mut [u8], room: &mut [u8]) -> Step
+    requires { ⌜ length (now terms) ≡ 256 ⌝ }
+    requires { ⌜ length (now orders) ≡ 256 ⌝ }
+    ensures { λ r. ⌜ _≡_ {A = Called} (record { answer = r; terms = now (terms .entry); orders = now (orders .entry); journal = now (journal .exit); room = now (room .exit) }) (call timeout n (now (terms .entry)) (now (orders .entry)) (now (journal .entry)) (now (room .entry))) ⌝ }
+{
+    if !is_good(n, terms) {
+        return refused(n, 12);
+    }
+    run_timeout(n, terms, orders, journal, room)
+}
+
+pub fn order(
+    n: Node,
+    o: u64,
+    terms: &mut [u32],
+    orders: &mut [u64],
+    journal: &mut [u8],
+    room: &mut [u8],
+) -> Step
+    requires { ⌜ length (now terms) ≡ 256 ⌝ }
+    requires { ⌜ length (now orders) ≡ 256 ⌝ }
+    ensures { λ r. ⌜ _≡_ {A = Called} (record { answer = r; terms = now (terms .exit); orders = now (orders .exit); journal = now (journal .exit); room = now (room .exit) }) (call (ordering o) n (now (terms .entry)) (now (orders .entry)) (now (journal .entry)) (now (room .entry))) ⌝ }
+{
+    if !is_good(n, &terms[..]) {
+        return refused(n, 12);
+    }
+    run_order(n, o, terms, orders, journal, room)
+}
+
+pub fn prompt(n: Node, terms: &[u32], orders: &[u64], journal: &mut [u8], room: &mut [u8]) -> Step
+    requires { ⌜ length (now terms) ≡ 256 ⌝ }
+    requires { ⌜ length (now orders) ≡ 256 ⌝ }
+    ensures { λ r. ⌜ _≡_ {A = Called} (record { answer = r; terms = now (terms .entry); orders = now (orders .entry); journal = now (journal .exit); room = now (room .exit) }) (call prompt n (now (terms .entry)) (now (orders .entry)) (now (journal .entry)) (now (room .entry))) ⌝ }
+{
+    if !is_good(n, terms) {
+        return refused(n, 12);
+    }
+    run_prompt(n, terms, orders, journal, room)
+}
+
+pub fn handed_out(n: Node, terms: &[u32], orders: &[u64]) -> Handed
+    requires { ⌜ length (now terms) ≡ 256 ⌝ }
+    ensures { λ r. ⌜ r ≡ handed n (now (terms .entry)) (now (orders .entry)) ⌝ }
+{
+    if !is_good(n, terms) {
+        return Handed {
+            refusal: 12,
+            count: 0,
+        };
+    }
+    Handed {
+        refusal: 0,
+        count: n.commit,
+    }
+}

@@ -1,0 +1,121 @@
+// Becoming a candidate, a leader, and a leader that has settled its commit: nowhere else is a role written.
+use crate::Node;
+use crate::commit::best;
+use crate::commit::commit_at;
+use crate::mask::bit;
+use crate::mask::is_other;
+use crate::sends::term_at;
+ghost use mathlib.Core.Path.{_≡_};
+ghost use mathlib.Core.Bool.{true};
+ghost use mathlib.Core.List.{List, [], _∷_, _++_};
+ghost use Prim.Native.Nat.{ℕ, _+_, _-_, _≤_, _<_};
+ghost use lib.ListN.{length};
+ghost use Rattle.node.specs.Step.{standing, next-after, leading, ordered};
+ghost use Rattle.node.specs.Record.{leader, term-at, good};
+ghost use Rattle.node.specs.Commit.{settle};
+ghost use Rattle.node.specs.CommitLaws.{Ranged};
+ghost use Rattle.node.specs.Calls.{entries-of, bare, state-of, node-of};
+
+// "term + 1, candidate, vote and votes = itself"
+pub fn standing(n: Node) -> Node
+    requires { ⌜ 1 ≤ n .me ⌝ }
+    requires { ⌜ n .me ≤ 7 ⌝ }
+    requires { ⌜ n .term < 4294967295 ⌝ }
+    ensures { λ r. ⌜ r ≡ node-of (standing (bare n)) ⌝ }
+{
+    let none = [0u16; Node::BOXES];
+    Node {
+        me: n.me,
+        members: n.members,
+        term: n.term + 1,
+        vote: n.me,
+        last: n.last,
+        commit: n.commit,
+        role: 1,
+        votes: bit(n.me),
+        next: none,
+        matched: none,
+    }
+}
+
+fn next_after(n: Node, i: u8) -> u16
+    requires { ⌜ 1 ≤ i ⌝ }
+    requires { ⌜ i ≤ 7 ⌝ }
+    requires { ⌜ n .last ≤ 256 ⌝ }
+    ensures { λ r. ⌜ r ≡ next-after (bare n) i ⌝ }
+{
+    if is_other(n.me, n.members, i) {
+        return n.last + 1;
+    }
+    0
+}
+
+// "Next = last index + 1, match = 0 for the others"
+pub fn leading(n: Node) -> Node
+    requires { ⌜ n .last ≤ 256 ⌝ }
+    ensures { λ r. ⌜ r ≡ node-of (leading (bare n)) ⌝ }
+{
+    let none = [0u16; Node::BOXES];
+    let next = [
+        next_after(n, 1),
+        next_after(n, 2),
+        next_after(n, 3),
+        next_after(n, 4),
+        next_after(n, 5),
+        next_after(n, 6),
+        next_after(n, 7),
+    ];
+    Node {
+        me: n.me,
+        members: n.members,
+        term: n.term,
+        vote: n.vote,
+        last: n.last,
+        commit: n.commit,
+        role: 2,
+        votes: 0,
+        next,
+        matched: none,
+    }
+}
+
+// The leader with its commit settled, its log being the lent one.
+pub fn settled(n: Node, terms: &[u32], orders: &[u64]) -> Node
+    requires { ⌜ n .last ≤ length (now terms) ⌝ }
+    requires { ⌜ Ranged (state-of n (now terms) (now orders)) ⌝ }
+    ensures { λ r. ⌜ r ≡ node-of (settle (state-of n (now (terms .entry)) (now (orders .entry)))) ⌝ }
+{
+    let found = best(n);
+    let mut next = n;
+    next.commit = commit_at(n, found, term_at(terms, found));
+    next
+}
+
+// The term of the entry at an index of a log that has one entry more, of the current term, than is lent.
+fn term_after(n: Node, terms: &[u32], index: u16) -> u32
+    requires { ⌜ index ≤ n .last ⌝ }
+    requires { ⌜ 1 ≤ n .last ⌝ }
+    requires { ⌜ n .last ≤ length (now terms) ⌝ }
+    ensures { λ r. ⌜ ((orders : List ℕ) (o : ℕ) → r ≡ term-at (entries-of (now (terms .entry)) orders 0 (n .last - 1) ++ (record { term = n .term; order = o } ∷ [])) index) ⌝ }
+{
+    if index == n.last {
+        return n.term;
+    }
+    term_at(terms, index)
+}
+
+// The leader with one entry more, and its commit settled.
+pub fn ordered(n: Node, terms: &[u32], orders: &[u64]) -> Node
+    requires { ⌜ length (now terms) ≡ 256 ⌝ }
+    requires { ⌜ n .last < 256 ⌝ }
+    requires { ⌜ n .role ≡ leader ⌝ }
+    requires { ⌜ good (state-of n (now terms) (now orders)) ≡ true ⌝ }
+    ensures { λ r. ⌜ ((o : ℕ) → r ≡ node-of (settle (ordered (state-of n (now (terms .entry)) (now (orders .entry))) o))) ⌝ }
+{
+    let mut longer = n;
+    longer.last = n.last + 1;
+    let found = best(longer);
+    let mut next = longer;
+    next.commit = commit_at(longer, found, term_after(longer, terms, found));
+    next
+}

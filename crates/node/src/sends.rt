@@ -1,0 +1,231 @@
+// What a box sends, in rising box number, into room that the caller lends.
+//
+// Each box has its own call, which writes one message or none and answers where the next one goes.
+use crate::Node;
+use crate::mask::is_other;
+use frames::Entry;
+use frames::Fields;
+ghost use mathlib.Core.Path.{_≡_};
+ghost use mathlib.Core.List.{List};
+ghost use Prim.Native.Nat.{ℕ, _+_, _-_, _≤_, _<_};
+ghost use lib.ListN.{length, getD};
+ghost use Rattle.digits.specs.Room.{over};
+ghost use Rattle.frames.specs.Fields.{fields-of};
+ghost use Rattle.node.specs.Record.{term-at, of-box};
+ghost use Rattle.node.specs.Sends.{append-to, to-others, texts, appends};
+ghost use Rattle.node.specs.Calls.{entries-of, state-of, bare};
+ghost use Rattle.node.specs.SendSizes.{slot, request, only, size-if, requests-size, entry-count, append-size, appends-size, Tells, Sendable};
+
+// The term of the entry at an index, 0 at the start.
+pub fn term_at(terms: &[u32], index: u16) -> u32
+    requires { ⌜ index ≤ length (now terms) ⌝ }
+    ensures { λ r. ⌜ ((orders : List ℕ) (last : ℕ) → index ≤ last → r ≡ term-at (entries-of (now (terms .entry)) orders 0 last) index) ⌝ }
+{
+    if index == 0 {
+        return 0;
+    }
+    terms[(index - 1) as usize]
+}
+
+// ---- vote requests
+
+fn request_size(n: Node, i: u8) -> usize
+    requires { ⌜ 1 ≤ i ⌝ }
+    requires { ⌜ i ≤ 7 ⌝ }
+    ensures { λ r. ⌜ r ≡ size-if (n .me) (n .members) 29 i ⌝ }
+    ensures { λ r. ⌜ r ≤ 29 ⌝ }
+{
+    if is_other(n.me, n.members, i) {
+        return 29;
+    }
+    0
+}
+
+// The bytes of all vote requests.
+pub fn requests_size(n: Node) -> usize
+    ensures { λ r. ⌜ r ≡ requests-size (n .me) (n .members) ⌝ }
+{
+    request_size(n, 1)
+        + request_size(n, 2)
+        + request_size(n, 3)
+        + request_size(n, 4)
+        + request_size(n, 5)
+        + request_size(n, 6)
+        + request_size(n, 7)
+}
+
+fn put_request(room: &mut [u8], at: usize, n: Node, prior: u32, i: u8) -> usize
+    requires { ⌜ 1 ≤ i ⌝ }
+    requires { ⌜ i ≤ 7 ⌝ }
+    requires { ⌜ at + size-if (n .me) (n .members) 29 i ≤ length (now room) ⌝ }
+    ensures { λ r. ⌜ r ≡ at + size-if (n .me) (n .members) 29 i ⌝ }
+    ensures { λ _. ⌜ now (room .exit) ≡ over (now (room .entry)) at (texts (only (bare n) (request n prior) i)) ⌝ }
+{
+    if !is_other(n.me, n.members, i) {
+        return at;
+    }
+    let e = Entry { term: 0, order: 0 };
+    let entries = [e; Fields::ENTRIES];
+    let f = Fields {
+        kind: 1,
+        from: n.me,
+        to: i,
+        term: n.term,
+        index: n.last,
+        prior,
+        commit: 0,
+        reply: 0,
+        count: 0,
+        entries,
+    };
+    frames::put_vote_request(&mut room[at..], f);
+    at + 29
+}
+
+// "vote request to every other member"
+pub fn put_requests(room: &mut [u8], n: Node, prior: u32)
+    requires { ⌜ requests-size (n .me) (n .members) ≤ length (now room) ⌝ }
+    ensures { λ _. ⌜ now (room .exit) ≡ over (now (room .entry)) 0 (texts (to-others (bare n) (request n prior) 1 7)) ⌝ }
+{
+    let a = put_request(room, 0, n, prior, 1);
+    let b = put_request(room, a, n, prior, 2);
+    let c = put_request(room, b, n, prior, 3);
+    let d = put_request(room, c, n, prior, 4);
+    let e = put_request(room, d, n, prior, 5);
+    let f = put_request(room, e, n, prior, 6);
+    put_request(room, f, n, prior, 7);
+}
+
+// ---- appends
+
+// "Previous index = next - 1"
+fn previous(n: Node, i: u8) -> u16
+    requires { ⌜ 1 ≤ i ⌝ }
+    requires { ⌜ i ≤ 7 ⌝ }
+    ensures { λ r. ⌜ r ≡ getD (n .next) (i - 1) 0 - 1 ⌝ }
+{
+    let at = (i - 1) as usize;
+    let next = n.next[at];
+    if next == 0 {
+        return 0;
+    }
+    next - 1
+}
+
+// "up to 4 entries from next on"
+fn entry_count(last: u16, previous: u16) -> u8
+    ensures { λ r. ⌜ r ≡ entry-count last previous ⌝ }
+    ensures { λ r. ⌜ r ≤ 4 ⌝ }
+{
+    if last <= previous {
+        return 0;
+    }
+    let left = last - previous;
+    if 4 <= left {
+        return 4;
+    }
+    (left % 256) as u8
+}
+
+fn append_size(n: Node, i: u8) -> usize
+    requires { ⌜ 1 ≤ i ⌝ }
+    requires { ⌜ i ≤ 7 ⌝ }
+    ensures { λ r. ⌜ r ≡ append-size (bare n) i ⌝ }
+    ensures { λ r. ⌜ r ≤ 131 ⌝ }
+{
+    if is_other(n.me, n.members, i) {
+        return 35 + 24 * entry_count(n.last, previous(n, i)) as usize;
+    }
+    0
+}
+
+// The bytes of all appends.
+pub fn appends_size(n: Node) -> usize
+    ensures { λ r. ⌜ r ≡ appends-size (bare n) ⌝ }
+{
+    append_size(n, 1)
+        + append_size(n, 2)
+        + append_size(n, 3)
+        + append_size(n, 4)
+        + append_size(n, 5)
+        + append_size(n, 6)
+        + append_size(n, 7)
+}
+
+// The entry at a place of the log, or none past its end.
+fn slot_at(terms: &[u32], orders: &[u64], at: usize, last: usize) -> Entry
+    requires { ⌜ last ≤ length (now terms) ⌝ }
+    requires { ⌜ last ≤ length (now orders) ⌝ }
+    ensures { λ r. ⌜ r ≡ slot (now (terms .entry)) (now (orders .entry)) at last ⌝ }
+{
+    if at < last {
+        return Entry {
+            term: terms[at],
+            order: orders[at],
+        };
+    }
+    Entry { term: 0, order: 0 }
+}
+
+// The fields of an append to box i.
+fn append_fields(n: Node, terms: &[u32], orders: &[u64], i: u8) -> Fields
+    requires { ⌜ 1 ≤ i ⌝ }
+    requires { ⌜ i ≤ 7 ⌝ }
+    requires { ⌜ of-box (n .next) i ≤ n .last + 1 ⌝ }
+    requires { ⌜ n .last ≤ length (now terms) ⌝ }
+    requires { ⌜ n .last ≤ length (now orders) ⌝ }
+    ensures { λ r. ⌜ Tells r (state-of n (now (terms .entry)) (now (orders .entry))) i ⌝ }
+{
+    let p = previous(n, i);
+    let last = n.last as usize;
+    let at = p as usize;
+    let a = slot_at(terms, orders, at, last);
+    let b = slot_at(terms, orders, at + 1, last);
+    let c = slot_at(terms, orders, at + 2, last);
+    let d = slot_at(terms, orders, at + 3, last);
+    let entries = [a, b, c, d];
+    Fields {
+        kind: 3,
+        from: n.me,
+        to: i,
+        term: n.term,
+        index: p,
+        prior: term_at(terms, p),
+        commit: n.commit,
+        reply: 0,
+        count: entry_count(n.last, p),
+        entries,
+    }
+}
+
+fn put_append(room: &mut [u8], at: usize, n: Node, terms: &[u32], orders: &[u64], i: u8) -> usize
+    requires { ⌜ 1 ≤ i ⌝ }
+    requires { ⌜ i ≤ 7 ⌝ }
+    requires { ⌜ Sendable n (now terms) (now orders) ⌝ }
+    requires { ⌜ at + append-size (bare n) i ≤ length (now room) ⌝ }
+    ensures { λ r. ⌜ r ≡ at + append-size (bare n) i ⌝ }
+    ensures { λ _. ⌜ now (room .exit) ≡ over (now (room .entry)) at (texts (only (bare n) (append-to (state-of n (now (terms .entry)) (now (orders .entry)))) i)) ⌝ }
+{
+    if !is_other(n.me, n.members, i) {
+        return at;
+    }
+    let f = append_fields(n, terms, orders, i);
+    let bytes = 35 + 24 * f.count as usize;
+    frames::put_append(&mut room[at..], f);
+    at + bytes
+}
+
+// An append to each other member.
+pub fn put_appends(room: &mut [u8], n: Node, terms: &[u32], orders: &[u64])
+    requires { ⌜ Sendable n (now terms) (now orders) ⌝ }
+    requires { ⌜ appends-size (bare n) ≤ length (now room) ⌝ }
+    ensures { λ _. ⌜ now (room .exit) ≡ over (now (room .entry)) 0 (texts (appends (state-of n (now (terms .entry)) (now (orders .entry))))) ⌝ }
+{
+    let a = put_append(room, 0, n, terms, orders, 1);
+    let b = put_append(room, a, n, terms, orders, 2);
+    let c = put_append(room, b, n, terms, orders, 3);
+    let d = put_append(room, c, n, terms, orders, 4);
+    let e = put_append(room, d, n, terms, orders, 5);
+    let f = put_append(room, e, n, terms, orders, 6);
+    put_append(room, f, n, terms, orders, 7);
+}
