@@ -1,3 +1,5 @@
 -- Messages as numbers, for callers in C and Rust.
 pub mod Flat
+pub mod Boxes
+pub mod BoxLaws
 pub mod Laws

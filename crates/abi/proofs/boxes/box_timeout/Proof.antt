@@ -1,0 +1,47 @@
+-- 12 where a number does not fit; otherwise the event's answer, stored.
+use borrow.Author.Needs.{needs}
+use mathlib.Core.Path.{sym, _∙_}
+use borrow.Author.Tests.{not-true, not-false}
+use Rattle.node.specs.Step.{timeout}
+use Rattle.abi.specs.BoxLaws.{event-none, event-step}
+use Rattle.abi.proofs.boxes.box_timeout.Statement.{statement}
+use Rattle.abi.proofs.boxes.box_timeout.Tie as tie
+
+box-range-requires : tie.Need-box-range-requires
+box-range-requires c κs = search needs
+
+returns : tie.Need-returns
+returns c = event-none timeout (c .before .before .before .before .before .args .n .now) (c .before .before .before .before .before .args .terms .now) (c .before .before .before .before .before .args .orders .now) (c .before .before .before .before .before .args .journal .now) (c .before .before .before .before .before .args .room .now) (c .before .before .before .before .before .args .sizes .now) (sym (c .before .box-range .ensures) ∙ not-true _ (c .if1 .taken))
+
+box-in-requires : tie.Need-box-in-requires
+box-in-requires c κs = search needs
+
+timeout-requires : tie.Need-timeout-requires
+timeout-requires c κs = search needs
+
+put-step-requires : tie.Need-put-step-requires
+put-step-requires c κs = search needs
+
+same-length : tie.Need-same-length
+same-length c = search needs
+
+same-length-2 : tie.Need-same-length-2
+same-length-2 c = search needs
+
+returns-2 : tie.Need-returns-2
+returns-2 c =
+    event-step timeout (c .before .before .before .before .before .before .before .before .before .before .before .before .before .before .before .before .before .args .n .now) (c .before .before .before .before .before .before .before .before .before .before .before .before .before .before .before .before .before .args .terms .now) (c .before .before .before .before .before .before .before .before .before .before .before .before .before .before .before .before .before .args .orders .now) (c .before .before .before .before .before .before .before .before .before .before .before .before .before .before .before .before .before .args .journal .now) (c .before .before .before .before .before .before .before .before .before .before .before .before .before .before .before .before .before .args .room .now) (c .before .before .before .before .before .before .before .before .before .before .before .before .before .before .before .before .before .args .sizes .now) (sym (c .before .before .before .before .before .before .before .before .before .before .before .before .before .box-range .ensures) ∙ not-false _ (c .before .before .before .before .before .before .before .before .before .before .before .before .if1 .left)) (c .before .before .before .before .before .before .before .before .before .before .box-in .result) (c .before .before .before .before .before .before .before .timeout .result)
+    (c .before .before .before .before .before .before .before .before .before .before .box-in .ensures) (c .before .before .before .before .before .before .before .timeout .ensures) (c .put-step .ensures .0) (c .put-step .ensures .1 .0) (c .put-step .ensures .1 .1)
+
+pub box-timeout-spec : {M : Type 1} → statement M
+box-timeout-spec =
+    tie.close
+    (tie.spec
+    box-range-requires
+    returns
+    box-in-requires
+    timeout-requires
+    put-step-requires
+    same-length
+    same-length-2
+    returns-2)
