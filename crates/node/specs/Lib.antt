@@ -1,5 +1,6 @@
 -- The box: its record and rules, majority, commit, what it sends, its journal lines, and what each event does; then what is proved of them.
 pub mod Majority
+pub mod Newer
 pub mod Record
 pub mod Commit
 pub mod Sends

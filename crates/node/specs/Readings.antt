@@ -8,6 +8,7 @@ use lib.Dec.{eqb}
 use Rattle.frames.specs.declared.Entry.{Entry}
 use Rattle.frames.specs.Rules.{in-order}
 use Rattle.node.specs.Majority.{holds, majority}
+use Rattle.node.specs.Newer.{as-new}
 use Rattle.node.specs.Record.{State, leader, term-at, is-other, good, is-membership, is-vote, is-role, are-votes, is-sent, sends-to}
 use Rattle.node.specs.Commit.{matches, matching, is-matched, highest, settled}
 
@@ -55,6 +56,11 @@ readings =
     -- "of 7f, 0f yes, 07 no"
     ∷ majority 0x7f 0x0f
     ∷ not (majority 0x7f 0x07)
+    -- "newer log (index, term): 3,2 against 5,1 yes; 4,2 against 5,2 no; 5,2 against 5,2 yes; 9,1 against 1,2 no"
+    ∷ as-new 3 2 5 1
+    ∷ not (as-new 4 2 5 2)
+    ∷ as-new 5 2 5 2
+    ∷ not (as-new 9 1 1 2)
     -- "mask 1f, leader in term 4, log terms 1,2, commit 1, two others match 2: commit 1"
     ∷ settles-at (leads (1 ∷ 2 ∷ []) 2) 1
     -- "Log 1,2,4 and two others match 3: commit 3"

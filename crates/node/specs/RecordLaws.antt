@@ -11,18 +11,7 @@ use Rattle.frames.specs.Rules.{is-box, in-order}
 use Rattle.frames.specs.Clauses.{four}
 use Rattle.node.specs.Majority.{holds}
 use Rattle.node.specs.Record.{State, leader, last-index, of-box, is-other, fresh, is-membership, is-vote, is-role, are-votes, is-sent, sends-to, is-sent-to, good}
-
--- what holds of the seven boxes holds of each number from 1 to 7
-pub at-box : (P : ℕ → Type 0) → P 1 → P 2 → P 3 → P 4 → P 5 → P 6 → P 7 → (i : ℕ) → 1 ≤ i → i ≤ boxes → P i
-at-box P a b c d e f g zero l h = absurd (omega arith)
-at-box P a b c d e f g (suc zero) l h = a
-at-box P a b c d e f g (suc (suc zero)) l h = b
-at-box P a b c d e f g (suc (suc (suc zero))) l h = c
-at-box P a b c d e f g (suc (suc (suc (suc zero)))) l h = d
-at-box P a b c d e f g (suc (suc (suc (suc (suc zero))))) l h = e
-at-box P a b c d e f g (suc (suc (suc (suc (suc (suc zero)))))) l h = f
-at-box P a b c d e f g (suc (suc (suc (suc (suc (suc (suc zero))))))) l h = g
-at-box P a b c d e f g (suc (suc (suc (suc (suc (suc (suc (suc i)))))))) l h = absurd (omega arith)
+pub use Rattle.node.specs.MajorityLaws.{at-box}
 
 -- a box's number is from 1 to 7
 pub box-range : (i : ℕ) → is-box i ≡ true → (1 ≤ i) × (i ≤ boxes)

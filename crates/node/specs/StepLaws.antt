@@ -19,6 +19,7 @@ use Rattle.node.specs.Commit.{highest, settled, settle}
 use Rattle.node.specs.Sends.{vote-requests, appends}
 use Rattle.node.specs.Step.{done, refuse, last-of-terms, standing, next-after, leading, led, won, timeout, ordered, order, prompt}
 use Rattle.node.specs.RecordLaws.{at-box, range-box, sent-facts, Good, good-facts, facts-good, Member, member-facts, self-voted}
+use Rattle.node.specs.CommitLaws.{settled-most}
 
 -- ---- the entry rule over a longer log and a later term
 
@@ -139,22 +140,6 @@ good-leading s g r =
   where
     new : (i : ℕ) → is-sent (is-other (s .me) (s .members) i) (last-index s) (next-after s i) 0 ≡ true
     new i = is-sent-new (is-other (s .me) (s .members) i) (last-index s)
-
--- the highest number that passes is no more than both bounds allow
-pub highest-most : (test : ℕ → Bool) (low n most : ℕ) → low ≤ most → n ≤ most → highest test low n ≤ most
-unfolding highest
-highest-most test low zero most l h = l
-highest-most test low (suc n) most l h =
-    go (ltb low (suc n) && test (suc n)) (highest-most test low n most l (omega arith))
-  where
-    go : (b : Bool) → highest test low n ≤ most → cond b (suc n) (highest test low n) ≤ most
-    go true below = h
-    go false below = below
-
--- A settled commit is at most the last index.
-pub settled-most : (s : State) → s .commit ≤ last-index s → settled s ≤ last-index s
-unfolding settled
-settled-most s h = highest-most _ (s .commit) (last-index s) (last-index s) h (omega arith)
 
 -- A record with its commit settled is good.
 pub good-settle : (s : State) → Good s → Good (settle s)

@@ -4,6 +4,7 @@ mod commit;
 mod events;
 mod journal;
 mod mask;
+mod newer;
 mod record;
 mod roles;
 mod sends;
