@@ -11,20 +11,20 @@ ghost use mathlib.Core.List.{[], _∷_};
 ghost use Prim.Native.Nat.{_+_, _*_, _≤_, _<_};
 ghost use lib.ListN.{length};
 ghost use Rattle.digits.specs.Room.{over};
-ghost use Rattle.frames.specs.Message.{vote-request, vote-answer, append, append-answer, start, entry-fields, spell, text};
+ghost use Rattle.frames.specs.Message.{vote-request, vote-answer, append, append-answer, number, start, entry-fields, spell, text};
 ghost use Rattle.frames.specs.Fields.{listed, message-of, one-frame};
 ghost use Rattle.frames.specs.Writing.{Wrote, written};
 
 // "Every frame starts: 01, kind, from, to, term (4)."
-fn put_start(room: &mut [u8], f: Fields)
+fn put_start(room: &mut [u8], kind: u8, from: u8, to: u8, term: u32)
     requires { ⌜ 16 ≤ length (now room) ⌝ }
-    ensures { λ _. ⌜ now (room .exit) ≡ over (now (room .entry)) 0 (spell (start (f .kind) (f .from) (f .to) (f .term) [])) ⌝ }
+    ensures { λ _. ⌜ now (room .exit) ≡ over (now (room .entry)) 0 (spell (start kind from to term [])) ⌝ }
 {
     digits::put_u8(room, 0, 1);
-    digits::put_u8(room, 2, f.kind);
-    digits::put_u8(room, 4, f.from);
-    digits::put_u8(room, 6, f.to);
-    digits::put_u32(room, 8, f.term);
+    digits::put_u8(room, 2, kind);
+    digits::put_u8(room, 4, from);
+    digits::put_u8(room, 6, to);
+    digits::put_u32(room, 8, term);
 }
 
 // The line feed that ends a frame or a journal line.
@@ -35,36 +35,33 @@ pub fn put_end(room: &mut [u8], at: usize)
     room[at] = 10;
 }
 
-// One function for each kind. They are inside calls: they ask for the room, and the fields may say anything.
-pub fn put_vote_request(room: &mut [u8], f: Fields)
-    requires { ⌜ f .kind ≡ 1 ⌝ }
+// One function for each kind, on its fields alone. They are inside calls: they ask for the room, and the fields may say anything.
+pub fn put_vote_request(room: &mut [u8], from: u8, to: u8, term: u32, index: u16, prior: u32)
     requires { ⌜ 29 ≤ length (now room) ⌝ }
-    ensures { λ _. ⌜ now (room .exit) ≡ over (now (room .entry)) 0 (text (vote-request (f .from) (f .to) (f .term) (f .index) (f .prior))) ⌝ }
+    ensures { λ _. ⌜ now (room .exit) ≡ over (now (room .entry)) 0 (text (vote-request from to term index prior)) ⌝ }
 {
-    put_start(room, f);
-    digits::put_u16(room, 16, f.index);
-    digits::put_u32(room, 20, f.prior);
+    put_start(room, 1, from, to, term);
+    digits::put_u16(room, 16, index);
+    digits::put_u32(room, 20, prior);
     put_end(room, 28);
 }
 
-pub fn put_vote_answer(room: &mut [u8], f: Fields)
-    requires { ⌜ f .kind ≡ 2 ⌝ }
+pub fn put_vote_answer(room: &mut [u8], from: u8, to: u8, term: u32, reply: u8)
     requires { ⌜ 19 ≤ length (now room) ⌝ }
-    ensures { λ _. ⌜ now (room .exit) ≡ over (now (room .entry)) 0 (text (vote-answer (f .from) (f .to) (f .term) (f .reply))) ⌝ }
+    ensures { λ _. ⌜ now (room .exit) ≡ over (now (room .entry)) 0 (text (vote-answer from to term reply)) ⌝ }
 {
-    put_start(room, f);
-    digits::put_u8(room, 16, f.reply);
+    put_start(room, 2, from, to, term);
+    digits::put_u8(room, 16, reply);
     put_end(room, 18);
 }
 
-pub fn put_append_answer(room: &mut [u8], f: Fields)
-    requires { ⌜ f .kind ≡ 4 ⌝ }
+pub fn put_append_answer(room: &mut [u8], from: u8, to: u8, term: u32, reply: u8, index: u16)
     requires { ⌜ 23 ≤ length (now room) ⌝ }
-    ensures { λ _. ⌜ now (room .exit) ≡ over (now (room .entry)) 0 (text (append-answer (f .from) (f .to) (f .term) (f .reply) (f .index))) ⌝ }
+    ensures { λ _. ⌜ now (room .exit) ≡ over (now (room .entry)) 0 (text (append-answer from to term reply index)) ⌝ }
 {
-    put_start(room, f);
-    digits::put_u8(room, 16, f.reply);
-    digits::put_u16(room, 18, f.index);
+    put_start(room, 4, from, to, term);
+    digits::put_u8(room, 16, reply);
+    digits::put_u16(room, 18, index);
     put_end(room, 22);
 }
 
@@ -91,19 +88,43 @@ pub fn put_entries(room: &mut [u8], at: usize, entries: [Entry; Fields::ENTRIES]
     }
 }
 
-pub fn put_append(room: &mut [u8], f: Fields)
-    requires { ⌜ f .kind ≡ 3 ⌝ }
-    requires { ⌜ f .count ≤ 4 ⌝ }
-    requires { ⌜ 35 + 24 * f .count ≤ length (now room) ⌝ }
-    ensures { λ _. ⌜ now (room .exit) ≡ over (now (room .entry)) 0 (text (append (f .from) (f .to) (f .term) (f .index) (f .prior) (f .commit) (listed (f .entries) 0 (f .count)))) ⌝ }
+// The fixed fields of an append, up to its count.
+fn put_append_start(
+    room: &mut [u8],
+    from: u8,
+    to: u8,
+    term: u32,
+    index: u16,
+    prior: u32,
+    commit: u16,
+    count: u8,
+)
+    requires { ⌜ 34 ≤ length (now room) ⌝ }
+    ensures { λ _. ⌜ now (room .exit) ≡ over (now (room .entry)) 0 (spell (start 3 from to term (number 2 index ∷ number 4 prior ∷ number 2 commit ∷ number 1 count ∷ []))) ⌝ }
 {
-    let count = f.count;
-    let entries = f.entries;
-    put_start(room, f);
-    digits::put_u16(room, 16, f.index);
-    digits::put_u32(room, 20, f.prior);
-    digits::put_u16(room, 28, f.commit);
+    put_start(room, 3, from, to, term);
+    digits::put_u16(room, 16, index);
+    digits::put_u32(room, 20, prior);
+    digits::put_u16(room, 28, commit);
     digits::put_u8(room, 32, count);
+}
+
+pub fn put_append(
+    room: &mut [u8],
+    from: u8,
+    to: u8,
+    term: u32,
+    index: u16,
+    prior: u32,
+    commit: u16,
+    count: u8,
+    entries: [Entry; Fields::ENTRIES],
+)
+    requires { ⌜ count ≤ 4 ⌝ }
+    requires { ⌜ 35 + 24 * count ≤ length (now room) ⌝ }
+    ensures { λ _. ⌜ now (room .exit) ≡ over (now (room .entry)) 0 (text (append from to term index prior commit (listed entries 0 count))) ⌝ }
+{
+    put_append_start(room, from, to, term, index, prior, commit, count);
     put_entries(room, 34, entries, count as usize);
     put_end(room, 34 + 24 * count as usize);
 }
@@ -116,18 +137,29 @@ fn put_frame(room: &mut [u8], f: Fields)
 {
     let kind = f.kind;
     if kind == 1 {
-        put_vote_request(room, f);
+        put_vote_request(room, f.from, f.to, f.term, f.index, f.prior);
         return;
     }
     if kind == 2 {
-        put_vote_answer(room, f);
+        put_vote_answer(room, f.from, f.to, f.term, f.reply);
         return;
     }
     if kind == 3 {
-        put_append(room, f);
+        let entries = f.entries;
+        put_append(
+            room,
+            f.from,
+            f.to,
+            f.term,
+            f.index,
+            f.prior,
+            f.commit,
+            f.count,
+            entries,
+        );
         return;
     }
-    put_append_answer(room, f);
+    put_append_answer(room, f.from, f.to, f.term, f.reply, f.index);
 }
 
 // Refusal 1 exactly when the fields are not one frame, 5 exactly when the room is too short for it;

@@ -6,12 +6,10 @@ use mathlib.Core.List.{List, [], _∷_}
 use lib.Dec.{ltb}
 use lib.ListN.{length, getD}
 use Rattle.frames.specs.declared.Entry.{Entry}
-use Rattle.frames.specs.declared.Fields.{Fields}
-use Rattle.frames.specs.Fields.{no-entry, listed}
-use Rattle.frames.specs.Message.{Message, vote-request, append}
+use Rattle.frames.specs.Fields.{no-entry}
+use Rattle.frames.specs.Message.{Message, vote-request}
 use Rattle.node.specs.declared.Node.{Node}
 use Rattle.node.specs.Record.{State, last-index, of-box, is-other}
-use Rattle.node.specs.Sends.{append-to}
 
 -- The message to one box, or none.
 abbrev pub only : State → (ℕ → Message) → ℕ → List Message
@@ -43,12 +41,6 @@ appends-size s =
 -- The entry at a place of the lent log, or none past its end.
 unfoldable pub slot : List ℕ → List ℕ → ℕ → ℕ → Entry
 slot terms orders at last = cond (ltb at last) (record { term = getD terms at 0; order = getD orders at 0 }) no-entry
-
--- The fields of an append tell it.
-pub record Tells (f : Fields) (s : State) (i : ℕ) : Type 0 where
-  pub kind : f .kind ≡ 3
-  pub count : f .count ≡ entry-count (last-index s) (of-box (s .next) i - 1)
-  pub message : append (f .from) (f .to) (f .term) (f .index) (f .prior) (f .commit) (listed (f .entries) 0 (f .count)) ≡ append-to s i
 
 -- A struct whose appends can be made: the log is lent, and next is at most one past its end.
 pub record Sendable (b : Node) (terms orders : List ℕ) : Type 0 where

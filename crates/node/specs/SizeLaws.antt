@@ -20,7 +20,7 @@ use Rattle.frames.specs.WritingLaws.{length-text}
 use Rattle.node.specs.declared.Node.{Node}
 use Rattle.node.specs.Record.{State, last-index, term-at, of-box, is-other}
 use Rattle.node.specs.Sends.{append-to, append-after, to-others, texts, vote-requests, appends, vote-request-to}
-use Rattle.node.specs.SendSizes.{only, request, size-if, requests-size, entry-count, append-size, appends-size, slot, Tells}
+use Rattle.node.specs.SendSizes.{only, request, size-if, requests-size, entry-count, append-size, appends-size, slot}
 use Rattle.node.specs.Calls.{entries-of, state-of, bare}
 use Rattle.node.specs.CallLaws.{length-entries-of}
 
@@ -236,7 +236,7 @@ unfolding slot
 slot-there terms orders at last h = rw (lt-ltb at last h)
 
 module _ (terms orders : List ℕ) (p last : ℕ) where
-  abbrev slots : List Entry
+  abbrev pub slots : List Entry
   slots = slot terms orders p last ∷ slot terms orders (p + 1) last ∷ slot terms orders (p + 2) last ∷ slot terms orders (p + 3) last ∷ []
 
   slots-are : (k : ℕ) → k ≤ 4 → p + k ≤ last → listed slots 0 k ≡ entries-of terms orders p k
@@ -271,31 +271,16 @@ module _ (terms orders : List ℕ) (p last : ℕ) where
       slots-are (entry-count last p) (omega arith) (omega arith)
       ∙ sym (rw (drop-entries terms orders 0 last p, zero-add, take-entries terms orders p (last - p) 4))
 
--- the fields that the code makes tell the append
-pub tells : (b : Node) (terms orders : List ℕ) (i p t k : ℕ) (w x y z : Entry) → p ≤ b .last → p ≡ of-box (b .next) i - 1
-    → t ≡ term-at (entries-of terms orders 0 (b .last)) p → k ≡ entry-count (b .last) p
-    → w ≡ slot terms orders p (b .last) → x ≡ slot terms orders (p + 1) (b .last) → y ≡ slot terms orders (p + 2) (b .last)
-    → z ≡ slot terms orders (p + 3) (b .last)
-    → Tells
-    (record {
-      kind = 3;
-      from = b .me;
-      to = i;
-      term = b .term;
-      index = p;
-      prior = t;
-      commit = b .commit;
-      reply = 0;
-      count = k;
-      entries = w ∷ x ∷ y ∷ z ∷ [];
-    })
-    (state-of b terms orders) i
-tells b terms orders i p t k w x y z l e f g hw hx hy hz =
-    record {
-      kind = refl;
-      count = g ∙ rw (length-entries-of terms orders 0 (b .last), e);
-      message = rw (hw, hx, hy, hz, g, f, slots-listed terms orders p (b .last) l, e);
-    }
+-- what the code writes is the append
+pub tells : (b : Node) (terms orders : List ℕ) (i p t k : ℕ) (es : List Entry) → p ≤ b .last → p ≡ of-box (b .next) i - 1
+    → t ≡ term-at (entries-of terms orders 0 (b .last)) p → k ≡ entry-count (b .last) p → es ≡ slots terms orders p (b .last)
+    → append (b .me) i (b .term) p t (b .commit) (listed es 0 k) ≡ append-to (state-of b terms orders) i
+tells b terms orders i p t k es l e f g h = rw (h, g, f, slots-listed terms orders p (b .last) l, e)
+
+-- and how long it is
+pub tells-long : (b : Node) (terms orders : List ℕ) (i p k : ℕ) → p ≡ of-box (b .next) i - 1 → k ≡ entry-count (b .last) p
+    → 35 + 24 * k ≡ 35 + 24 * entry-count (last-index (bare b)) (of-box (b .next) i - 1)
+tells-long b terms orders i p k e g = rw (g, e, length-entries-of [] [] 0 (b .last))
 
 -- how long appends are does not hang on what the log holds
 pub append-bare : (b : Node) (terms orders : List ℕ) (i : ℕ)

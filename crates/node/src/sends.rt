@@ -10,11 +10,11 @@ ghost use mathlib.Core.List.{List};
 ghost use Prim.Native.Nat.{ℕ, _+_, _-_, _≤_, _<_};
 ghost use lib.ListN.{length, getD};
 ghost use Rattle.digits.specs.Room.{over};
-ghost use Rattle.frames.specs.Fields.{fields-of};
 ghost use Rattle.node.specs.Record.{term-at, of-box};
 ghost use Rattle.node.specs.Sends.{append-to, to-others, texts, appends};
 ghost use Rattle.node.specs.Calls.{entries-of, state-of, bare};
-ghost use Rattle.node.specs.SendSizes.{slot, request, only, size-if, requests-size, entry-count, append-size, appends-size, Tells, Sendable};
+ghost use Rattle.node.specs.SendSizes.{slot, request, only, size-if, requests-size, entry-count, append-size, appends-size, Sendable};
+ghost use Rattle.node.specs.SizeLaws.{slots};
 
 // The term of the entry at an index, 0 at the start.
 pub fn term_at(terms: &[u32], index: u16) -> u32
@@ -64,21 +64,7 @@ fn put_request(room: &mut [u8], at: usize, n: Node, prior: u32, i: u8) -> usize
     if !is_other(n.me, n.members, i) {
         return at;
     }
-    let e = Entry { term: 0, order: 0 };
-    let entries = [e; Fields::ENTRIES];
-    let f = Fields {
-        kind: 1,
-        from: n.me,
-        to: i,
-        term: n.term,
-        index: n.last,
-        prior,
-        commit: 0,
-        reply: 0,
-        count: 0,
-        entries,
-    };
-    frames::put_vote_request(&mut room[at..], f);
+    frames::put_vote_request(&mut room[at..], n.me, i, n.term, n.last, prior);
     at + 29
 }
 
@@ -167,35 +153,18 @@ fn slot_at(terms: &[u32], orders: &[u64], at: usize, last: usize) -> Entry
     Entry { term: 0, order: 0 }
 }
 
-// The fields of an append to box i.
-fn append_fields(n: Node, terms: &[u32], orders: &[u64], i: u8) -> Fields
-    requires { ⌜ 1 ≤ i ⌝ }
-    requires { ⌜ i ≤ 7 ⌝ }
-    requires { ⌜ of-box (n .next) i ≤ n .last + 1 ⌝ }
-    requires { ⌜ n .last ≤ length (now terms) ⌝ }
-    requires { ⌜ n .last ≤ length (now orders) ⌝ }
-    ensures { λ r. ⌜ Tells r (state-of n (now (terms .entry)) (now (orders .entry))) i ⌝ }
+// The four places for what an append carries.
+fn slots(terms: &[u32], orders: &[u64], at: usize, last: usize) -> [Entry; Fields::ENTRIES]
+    requires { ⌜ at ≤ last ⌝ }
+    requires { ⌜ last ≤ length (now terms) ⌝ }
+    requires { ⌜ last ≤ length (now orders) ⌝ }
+    ensures { λ r. ⌜ r ≡ slots (now (terms .entry)) (now (orders .entry)) at last ⌝ }
 {
-    let p = previous(n, i);
-    let last = n.last as usize;
-    let at = p as usize;
     let a = slot_at(terms, orders, at, last);
     let b = slot_at(terms, orders, at + 1, last);
     let c = slot_at(terms, orders, at + 2, last);
     let d = slot_at(terms, orders, at + 3, last);
-    let entries = [a, b, c, d];
-    Fields {
-        kind: 3,
-        from: n.me,
-        to: i,
-        term: n.term,
-        index: p,
-        prior: term_at(terms, p),
-        commit: n.commit,
-        reply: 0,
-        count: entry_count(n.last, p),
-        entries,
-    }
+    [a, b, c, d]
 }
 
 fn put_append(room: &mut [u8], at: usize, n: Node, terms: &[u32], orders: &[u64], i: u8) -> usize
@@ -209,10 +178,22 @@ fn put_append(room: &mut [u8], at: usize, n: Node, terms: &[u32], orders: &[u64]
     if !is_other(n.me, n.members, i) {
         return at;
     }
-    let f = append_fields(n, terms, orders, i);
-    let bytes = 35 + 24 * f.count as usize;
-    frames::put_append(&mut room[at..], f);
-    at + bytes
+    let p = previous(n, i);
+    let count = entry_count(n.last, p);
+    let prior = term_at(terms, p);
+    let entries = slots(terms, orders, p as usize, n.last as usize);
+    frames::put_append(
+        &mut room[at..],
+        n.me,
+        i,
+        n.term,
+        p,
+        prior,
+        n.commit,
+        count,
+        entries,
+    );
+    at + (35 + 24 * count as usize)
 }
 
 // An append to each other member.

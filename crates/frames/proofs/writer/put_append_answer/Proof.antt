@@ -31,11 +31,10 @@ returns c =
     let begun = reply .before .before .before .before in
     let entered = begun .before .before .before in
     let d = entered .args .room .now in
-    let f = entered .args .f in
-    put-line d (append-answer (f .from) (f .to) (f .term) (f .reply) (f .index)) (omega arith)
-    (put-next d 0 (start 4 (f .from) (f .to) (f .term) (number 1 (f .reply) ∷ [])) (number 2 (f .index)) (omega arith)
-    (put-next d 0 (start 4 (f .from) (f .to) (f .term) ([])) (number 1 (f .reply)) (omega arith)
-    (rw (entered .pre .0) at (begun .put-start .ensures))
+    put-line d (append-answer (entered .args .from) (entered .args .to) (entered .args .term) (entered .args .reply) (entered .args .index)) (omega arith)
+    (put-next d 0 (start 4 (entered .args .from) (entered .args .to) (entered .args .term) (number 1 (entered .args .reply) ∷ [])) (number 2 (entered .args .index)) (omega arith)
+    (put-next d 0 (start 4 (entered .args .from) (entered .args .to) (entered .args .term) ([])) (number 1 (entered .args .reply)) (omega arith)
+    (begun .put-start .ensures)
     (reply .put-u8 .ensures))
     (index .put-u16 .ensures))
     (end .put-end .ensures)

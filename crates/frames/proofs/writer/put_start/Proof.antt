@@ -34,17 +34,17 @@ returns c =
     let version = kind .before .before .before .before in
     let entered = version .before .before .before in
     let d = entered .args .room .now in
-    let f = entered .args .f in
-    let fields-1 = number 1 1 ∷ [] in
-    let fields-2 = number 1 1 ∷ number 1 (f .kind) ∷ [] in
-    let fields-3 = number 1 1 ∷ number 1 (f .kind) ∷ number 1 (f .from) ∷ [] in
-    let fields-4 = number 1 1 ∷ number 1 (f .kind) ∷ number 1 (f .from) ∷ number 1 (f .to) ∷ [] in
-    put-next d 0 fields-4 (number 4 (f .term)) (omega arith)
-    (put-next d 0 fields-3 (number 1 (f .to)) (omega arith)
-    (put-next d 0 fields-2 (number 1 (f .from)) (omega arith)
-    (put-next d 0 fields-1 (number 1 (f .kind)) (omega arith)
-    (put-next d 0 [] (number 1 1) (omega arith) (put-none d 0) (version .put-u8 .ensures))
-    (kind .put-u82 .ensures)) (from .put-u83 .ensures)) (to .put-u84 .ensures)) (term .put-u32 .ensures)
+    put-next d 0 (number 1 1 ∷ number 1 (entered .args .kind) ∷ number 1 (entered .args .from) ∷ number 1 (entered .args .to) ∷ []) (number 4 (entered .args .term)) (omega arith)
+    (put-next d 0 (number 1 1 ∷ number 1 (entered .args .kind) ∷ number 1 (entered .args .from) ∷ []) (number 1 (entered .args .to)) (omega arith)
+    (put-next d 0 (number 1 1 ∷ number 1 (entered .args .kind) ∷ []) (number 1 (entered .args .from)) (omega arith)
+    (put-next d 0 (number 1 1 ∷ []) (number 1 (entered .args .kind)) (omega arith)
+    (put-next d 0 ([]) (number 1 1) (omega arith)
+    (put-none d 0)
+    (version .put-u8 .ensures))
+    (kind .put-u82 .ensures))
+    (from .put-u83 .ensures))
+    (to .put-u84 .ensures))
+    (term .put-u32 .ensures)
 
 pub put-start-spec : {M : Type 1} → statement M
 put-start-spec =

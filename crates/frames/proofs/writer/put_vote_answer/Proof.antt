@@ -27,10 +27,9 @@ returns c =
     let begun = reply .before .before .before .before in
     let entered = begun .before .before .before in
     let d = entered .args .room .now in
-    let f = entered .args .f in
-    put-line d (vote-answer (f .from) (f .to) (f .term) (f .reply)) (omega arith)
-    (put-next d 0 (start 2 (f .from) (f .to) (f .term) ([])) (number 1 (f .reply)) (omega arith)
-    (rw (entered .pre .0) at (begun .put-start .ensures))
+    put-line d (vote-answer (entered .args .from) (entered .args .to) (entered .args .term) (entered .args .reply)) (omega arith)
+    (put-next d 0 (start 2 (entered .args .from) (entered .args .to) (entered .args .term) ([])) (number 1 (entered .args .reply)) (omega arith)
+    (begun .put-start .ensures)
     (reply .put-u8 .ensures))
     (end .put-end .ensures)
 

@@ -31,11 +31,10 @@ returns c =
     let begun = index .before .before .before .before in
     let entered = begun .before .before .before in
     let d = entered .args .room .now in
-    let f = entered .args .f in
-    put-line d (vote-request (f .from) (f .to) (f .term) (f .index) (f .prior)) (omega arith)
-    (put-next d 0 (start 1 (f .from) (f .to) (f .term) (number 2 (f .index) ∷ [])) (number 4 (f .prior)) (omega arith)
-    (put-next d 0 (start 1 (f .from) (f .to) (f .term) ([])) (number 2 (f .index)) (omega arith)
-    (rw (entered .pre .0) at (begun .put-start .ensures))
+    put-line d (vote-request (entered .args .from) (entered .args .to) (entered .args .term) (entered .args .index) (entered .args .prior)) (omega arith)
+    (put-next d 0 (start 1 (entered .args .from) (entered .args .to) (entered .args .term) (number 2 (entered .args .index) ∷ [])) (number 4 (entered .args .prior)) (omega arith)
+    (put-next d 0 (start 1 (entered .args .from) (entered .args .to) (entered .args .term) ([])) (number 2 (entered .args .index)) (omega arith)
+    (begun .put-start .ensures)
     (index .put-u16 .ensures))
     (prior .put-u32 .ensures))
     (end .put-end .ensures)
