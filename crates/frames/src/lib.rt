@@ -4,7 +4,6 @@ mod rules;
 mod writer;
 
 pub use reader::read;
-pub use rules::follows;
 pub use writer::put_append;
 pub use writer::put_append_answer;
 pub use writer::put_end;

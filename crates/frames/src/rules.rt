@@ -40,7 +40,7 @@ fn is_start(from: u8, to: u8, term: u32) -> bool
 }
 
 // One step of the entry rule.
-pub fn follows(last: u32, term: u32, next: u32) -> bool
+fn follows(last: u32, term: u32, next: u32) -> bool
     ensures { λ r. ⌜ r ≡ follows last term next ⌝ }
 {
     (last <= term) & (1 <= next) & (last <= next)

@@ -1,5 +1,6 @@
 -- What is proved of the lent log and of the struct, for the code's proofs. Assumes nothing.
 use Prim.Native.Nat.{ℕ, zero, suc, _+_, _-_, _*_, _/_, _%_, _^_, _≤_, _<_}
+use native.Mathlib.Nat.{add-zero, zero-add, add-suc, suc-add}
 use native.Mathlib.Numerals.{add-one}
 use native.Mathlib.Omega.{arith}
 use mathlib.Core.Path.{_≡_, refl, sym, ap, _∙_}
@@ -28,36 +29,46 @@ unfolding entries-of
 length-entries-of terms orders at zero = refl
 length-entries-of terms orders at (suc n) = ap suc (length-entries-of terms orders (suc at) n)
 
--- the entries that are left at a place: the one there, and those behind it
-entries-next : (terms orders : List ℕ) (i n : ℕ) → i < n
-    → entries-of terms orders i (n - i) ≡ record { term = getD terms i 0; order = getD orders i 0 } ∷ entries-of terms orders (i + 1) (n - (i + 1))
+-- one entry more, behind the others
+entries-more : (terms orders : List ℕ) (at n : ℕ)
+    → entries-of terms orders at (suc n) ≡ entries-of terms orders at n ++ (record { term = getD terms (at + n) 0; order = getD orders (at + n) 0 } ∷ [])
 unfolding entries-of
-entries-next terms orders i n h = ap (entries-of terms orders i) left ∙ rw (add-one i)
-  where
-    left : n - i ≡ suc (n - (i + 1))
-    left = omega arith
+entries-more terms orders at zero = rw add-zero
+entries-more terms orders at (suc n) = rw (entries-more terms orders (suc at) n, suc-add at n, add-suc at n)
 
-entries-end : (terms orders : List ℕ) (i n : ℕ) → n ≤ i → entries-of terms orders i (n - i) ≡ []
-unfolding entries-of
-entries-end terms orders i n h = ap (entries-of terms orders i) done
-  where
-    done : n - i ≡ 0
-    done = omega arith
+-- the term of the last entry, or what stood before all of them
+unfoldable pub final : ℕ → List Entry → ℕ
+final p [] = p
+final p (e ∷ es) = final (e .term) es
 
--- the entry rule over what is left
-pub order-next : (terms : List ℕ) (i n last term : ℕ) → i < n → follows last term (getD terms i 0) ≡ true
-    → in-order last term (entries-of terms [] i (n - i)) ≡ in-order (getD terms i 0) term (entries-of terms [] (i + 1) (n - (i + 1)))
-unfolding in-order
-order-next terms i n last term h f = rw (entries-next terms [] i n h, f)
+final-more : (p : ℕ) (es : List Entry) (e : Entry) → final p (es ++ (e ∷ [])) ≡ e .term
+unfolding final
+final-more p [] e = refl
+final-more p (x ∷ es) e = final-more (x .term) es e
 
-pub order-broken : (terms : List ℕ) (i n last term : ℕ) → i < n → follows last term (getD terms i 0) ≡ false
-    → in-order last term (entries-of terms [] i (n - i)) ≡ false
-unfolding in-order
-order-broken terms i n last term h f = rw (entries-next terms [] i n h, f)
+-- four tests behind one are one test behind it
+behind : (f a b c d : Bool) → (f && (a && b && c && d)) ≡ (f && a && b && c && d)
+behind true a b c d = refl
+behind false a b c d = refl
 
-pub order-end : (terms : List ℕ) (i n last term : ℕ) → n ≤ i → in-order last term (entries-of terms [] i (n - i)) ≡ leb last term
-unfolding in-order
-order-end terms i n last term h = rw (entries-end terms [] i n h)
+-- the entry rule with one entry more
+in-order-last : (p top : ℕ) (es : List Entry) (e : Entry)
+    → in-order p top (es ++ (e ∷ [])) ≡ (in-order p top es && leb 1 (e .term) && leb (final p es) (e .term) && leb (e .term) top)
+unfolding in-order final
+in-order-last p top [] e = refl
+in-order-last p top (x ∷ es) e =
+    rw (in-order-last (x .term) top es e)
+    (behind (follows p top (x .term)) (in-order (x .term) top es) (leb 1 (e .term)) (leb (final (x .term) es) (e .term)) (leb (e .term) top))
+
+-- as the code goes on from entry to entry
+pub order-next : (terms : List ℕ) (i term : ℕ)
+    → in-order 0 term (entries-of terms [] 0 (i + 1))
+    ≡ (in-order 0 term (entries-of terms [] 0 i) && leb 1 (getD terms i 0) && leb (final 0 (entries-of terms [] 0 i)) (getD terms i 0) && leb (getD terms i 0) term)
+order-next terms i term =
+    rw (add-one i, entries-more terms [] 0 i, zero-add) (in-order-last 0 term (entries-of terms [] 0 i) _)
+
+pub final-next : (terms : List ℕ) (i : ℕ) → final 0 (entries-of terms [] 0 (i + 1)) ≡ getD terms i 0
+final-next terms i = rw (add-one i, entries-more terms [] 0 i, zero-add) (final-more 0 (entries-of terms [] 0 i) _)
 
 -- ---- the record's rules
 
