@@ -11,6 +11,7 @@ use lib.ListN.{length, getD}
 use borrow.Author.Tests.{eqb-true, leb-true, le-leb, lt-leb}
 use Rattle.digits.specs.Tests.{at-each, and-left, and-right}
 use Rattle.frames.specs.declared.Entry.{Entry}
+use Rattle.frames.specs.Limits.{log-limit}
 use Rattle.frames.specs.Rules.{is-box, follows, in-order}
 use Rattle.node.specs.declared.Node.{Node}
 use Rattle.node.specs.Majority.{bit, holds}
@@ -89,7 +90,7 @@ order-terms terms orders at (suc n) last term =
     ap (λ (b : Bool). follows last term (getD terms at 0) && b) (order-terms terms orders (suc at) n (getD terms at 0) term)
 
 -- a record whose membership is none, or whose log is too long, is not good; of another the rest decides
-pub good-by : (b : Node) (terms orders : List ℕ) → is-membership (b .me) (b .members) ≡ true → b .last ≤ 256
+pub good-by : (b : Node) (terms orders : List ℕ) → is-membership (b .me) (b .members) ≡ true → b .last ≤ log-limit
     → good (state-of b terms orders)
     ≡ (is-vote (b .members) (b .vote) && in-order 0 (b .term) (entries-of terms [] 0 (b .last)) && leb (b .commit) (b .last)
     && is-role (b .role) (b .term) (b .vote) (b .me) && are-votes (b .role) (b .votes) (b .members) (b .me) && are-sent (bare b))
@@ -97,14 +98,14 @@ unfolding good sends-to
 good-by b terms orders m l =
     let s : State = state-of b terms orders in
     seven
-    (is-membership (b .me) (b .members) && is-vote (b .members) (b .vote) && leb (last-index s) 256 && in-order 0 (b .term) (s .log)
+    (is-membership (b .me) (b .members) && is-vote (b .members) (b .vote) && leb (last-index s) log-limit && in-order 0 (b .term) (s .log)
     && leb (b .commit) (last-index s) && is-role (b .role) (b .term) (b .vote) (b .me) && are-votes (b .role) (b .votes) (b .members) (b .me))
     (is-sent-to s 1) (is-sent-to s 2) (is-sent-to s 3) (is-sent-to s 4) (is-sent-to s 5) (is-sent-to s 6) (is-sent-to s 7)
     ∙ rw (
       m,
       length-entries-of terms orders 0 (b .last),
       length-entries-of [] [] 0 (b .last),
-      le-leb (b .last) 256 l,
+      le-leb (b .last) log-limit l,
       and-true (is-vote (b .members) (b .vote)),
       order-terms terms orders 0 (b .last) 0 (b .term),
     )
@@ -113,10 +114,10 @@ pub not-good-membership : (b : Node) (terms orders : List ℕ) → is-membership
 unfolding good
 not-good-membership b terms orders m = rw m
 
-pub not-good-long : (b : Node) (terms orders : List ℕ) → 256 < b .last → good (state-of b terms orders) ≡ false
+pub not-good-long : (b : Node) (terms orders : List ℕ) → log-limit < b .last → good (state-of b terms orders) ≡ false
 unfolding good
 not-good-long b terms orders l =
-    rw (length-entries-of terms orders 0 (b .last), lt-leb (b .last) 256 l, and-false (is-membership (b .me) (b .members) && is-vote (b .members) (b .vote)))
+    rw (length-entries-of terms orders 0 (b .last), lt-leb (b .last) log-limit l, and-false (is-membership (b .me) (b .members) && is-vote (b .members) (b .vote)))
 
 -- a membership's own box is one of seven
 pub membership-box : (me members : ℕ) → is-membership me members ≡ true → (1 ≤ me) × (me ≤ 7)

@@ -10,6 +10,7 @@ use lib.Seq.{getD-append-seam}
 use borrow.Author.Tests.{eq-eqb, ne-eqb, le-leb, lt-leb}
 use Rattle.digits.specs.Room.{over}
 use Rattle.frames.specs.declared.Entry.{Entry}
+use Rattle.frames.specs.Limits.{log-limit}
 use Rattle.frames.specs.Fields.{no-entry, listed}
 use Rattle.node.specs.declared.Node.{Node}
 use Rattle.node.specs.Record.{State, leader, term-at, good}
@@ -76,7 +77,7 @@ module _ (b : Node) (terms orders : List ℕ) (o : ℕ) where
   unfolding ordered
   longer = rw (length-append, length-entries-of terms orders 0 (b .last))
 
-  pub longer-ranged : good s ≡ true → b .role ≡ leader → b .last < 256 → Ranged (ordered s o)
+  pub longer-ranged : good s ≡ true → b .role ≡ leader → b .last < log-limit → Ranged (ordered s o)
   longer-ranged h l r =
       ranged (ordered s o) (facts-good (ordered s o) (good-ordered s o (good-facts s h) l (rw (length-entries-of terms orders 0 (b .last)) r)))
 
@@ -119,7 +120,7 @@ module _ (b : Node) (terms orders : List ℕ) (o : ℕ) where
     unfolding ordered settle
     order-orders = more-orders terms orders (b .last) (b .term) o q
 
-  pub order-sendable : (next : Node) → next ≡ node-of x → good s ≡ true → b .role ≡ leader → b .last < 256 → length terms ≡ 256 → length orders ≡ 256
+  pub order-sendable : (next : Node) → next ≡ node-of x → good s ≡ true → b .role ≡ leader → b .last < log-limit → length terms ≡ log-limit → length orders ≡ log-limit
       → Sendable next terms' orders'
   unfolding ordered settle
   order-sendable next e h l r p q =
@@ -133,11 +134,11 @@ module _ (b : Node) (terms orders : List ℕ) (o : ℕ) where
   unfolding order run
   order-not journal room n = rw (ne-eqb _ _ n)
 
-  pub order-full : (journal room : List ℕ) → b .role ≡ leader → 256 ≤ b .last → untouched 4 b terms orders journal room ≡ run (order o s) b terms orders journal room
+  pub order-full : (journal room : List ℕ) → b .role ≡ leader → log-limit ≤ b .last → untouched 4 b terms orders journal room ≡ run (order o s) b terms orders journal room
   unfolding order run
-  order-full journal room e h = rw (eq-eqb _ _ e, length-entries-of terms orders 0 (b .last), le-leb 256 (b .last) h)
+  order-full journal room e h = rw (eq-eqb _ _ e, length-entries-of terms orders 0 (b .last), le-leb log-limit (b .last) h)
 
-  pub order-run : (journal room : List ℕ) → b .role ≡ leader → b .last < 256
+  pub order-run : (journal room : List ℕ) → b .role ≡ leader → b .last < log-limit
       → written b s x (appends x) terms orders journal room ≡ run (order o s) b terms orders journal room
   unfolding order run
-  order-run journal room e h = rw (eq-eqb _ _ e, length-entries-of terms orders 0 (b .last), lt-leb 256 (b .last) h)
+  order-run journal room e h = rw (eq-eqb _ _ e, length-entries-of terms orders 0 (b .last), lt-leb log-limit (b .last) h)

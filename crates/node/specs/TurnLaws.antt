@@ -7,6 +7,7 @@ use mathlib.Core.List.{List, [], _∷_, _++_}
 use lib.ListN.{length}
 use Rattle.digits.specs.Room.{over}
 use Rattle.frames.specs.declared.Entry.{Entry}
+use Rattle.frames.specs.Limits.{log-limit}
 use Rattle.frames.specs.Fields.{listed}
 use Rattle.node.specs.declared.Node.{Node}
 use Rattle.node.specs.Majority.{bit, majority}
@@ -33,11 +34,11 @@ module _ (b : Node) (terms orders : List ℕ) (h : good (state-of b terms orders
   own-box = member-facts (b .me) (b .members) (good-facts (state-of b terms orders) h .membership)
 
   -- its log fits
-  pub own-last : b .last ≤ 256
+  pub own-last : b .last ≤ log-limit
   own-last = omega (arith, good-facts (state-of b terms orders) h .room, length-entries-of terms orders 0 (b .last))
 
 -- a leader's appends can be made
-pub sendable : (x : State) (b : Node) (terms orders : List ℕ) → Good x → x .role ≡ leader → b ≡ node-of x → length terms ≡ 256 → length orders ≡ 256
+pub sendable : (x : State) (b : Node) (terms orders : List ℕ) → Good x → x .role ≡ leader → b ≡ node-of x → length terms ≡ log-limit → length orders ≡ log-limit
     → Sendable b terms orders
 sendable x b terms orders g l e p q =
     rw e
@@ -116,11 +117,11 @@ module _ (b : Node) (terms orders : List ℕ) where
   unfolding standing leading settle
   win-line-long = ap length (journaled-turn s won refl (λ t. omega arith)) ∙ line-long _
 
-  pub stand-last : (t : Node) → t ≡ node-of (standing (bare b)) → b .last ≤ 256 → t .last ≤ 256
+  pub stand-last : (t : Node) → t ≡ node-of (standing (bare b)) → b .last ≤ log-limit → t .last ≤ log-limit
   unfolding standing
   stand-last t e h = rw (e, length-entries-of [] [] 0 (b .last)) h
 
-  pub win-room : (l : Node) → l ≡ node-of (leading (standing s)) → b .last ≤ 256 → length terms ≡ 256 → l .last ≤ length terms
+  pub win-room : (l : Node) → l ≡ node-of (leading (standing s)) → b .last ≤ log-limit → length terms ≡ log-limit → l .last ≤ length terms
   unfolding standing leading
   win-room l e h p = rw (e, length-entries-of terms orders 0 (b .last), p) h
 

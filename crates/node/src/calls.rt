@@ -8,14 +8,15 @@ use crate::events::run_prompt;
 use crate::events::run_timeout;
 use crate::record::is_good;
 ghost use mathlib.Core.Path.{_≡_};
+ghost use Rattle.frames.specs.Limits.{log-limit};
 ghost use lib.ListN.{length};
 ghost use Rattle.node.specs.Step.{timeout, prompt};
 ghost use Rattle.node.specs.Step.{order as ordering};
 ghost use Rattle.node.specs.Calls.{Called, call, handed};
 
 pub fn timeout(n: Node, terms: &[u32], orders: &[u64], journal: &mut [u8], room: &mut [u8]) -> Step
-    requires { ⌜ length (now terms) ≡ 256 ⌝ }
-    requires { ⌜ length (now orders) ≡ 256 ⌝ }
+    requires { ⌜ length (now terms) ≡ log-limit ⌝ }
+    requires { ⌜ length (now orders) ≡ log-limit ⌝ }
     ensures { λ r. ⌜ _≡_ {A = Called} (record { answer = r; terms = now (terms .entry); orders = now (orders .entry); journal = now (journal .exit); room = now (room .exit) }) (call timeout n (now (terms .entry)) (now (orders .entry)) (now (journal .entry)) (now (room .entry))) ⌝ }
 {
     if !is_good(n, terms) {
@@ -32,8 +33,8 @@ pub fn order(
     journal: &mut [u8],
     room: &mut [u8],
 ) -> Step
-    requires { ⌜ length (now terms) ≡ 256 ⌝ }
-    requires { ⌜ length (now orders) ≡ 256 ⌝ }
+    requires { ⌜ length (now terms) ≡ log-limit ⌝ }
+    requires { ⌜ length (now orders) ≡ log-limit ⌝ }
     ensures { λ r. ⌜ _≡_ {A = Called} (record { answer = r; terms = now (terms .exit); orders = now (orders .exit); journal = now (journal .exit); room = now (room .exit) }) (call (ordering o) n (now (terms .entry)) (now (orders .entry)) (now (journal .entry)) (now (room .entry))) ⌝ }
 {
     if !is_good(n, &terms[..]) {
@@ -43,8 +44,8 @@ pub fn order(
 }
 
 pub fn prompt(n: Node, terms: &[u32], orders: &[u64], journal: &mut [u8], room: &mut [u8]) -> Step
-    requires { ⌜ length (now terms) ≡ 256 ⌝ }
-    requires { ⌜ length (now orders) ≡ 256 ⌝ }
+    requires { ⌜ length (now terms) ≡ log-limit ⌝ }
+    requires { ⌜ length (now orders) ≡ log-limit ⌝ }
     ensures { λ r. ⌜ _≡_ {A = Called} (record { answer = r; terms = now (terms .entry); orders = now (orders .entry); journal = now (journal .exit); room = now (room .exit) }) (call prompt n (now (terms .entry)) (now (orders .entry)) (now (journal .entry)) (now (room .entry))) ⌝ }
 {
     if !is_good(n, terms) {
@@ -54,7 +55,7 @@ pub fn prompt(n: Node, terms: &[u32], orders: &[u64], journal: &mut [u8], room: 
 }
 
 pub fn handed_out(n: Node, terms: &[u32], orders: &[u64]) -> Handed
-    requires { ⌜ length (now terms) ≡ 256 ⌝ }
+    requires { ⌜ length (now terms) ≡ log-limit ⌝ }
     ensures { λ r. ⌜ r ≡ handed n (now (terms .entry)) (now (orders .entry)) ⌝ }
 {
     if !is_good(n, terms) {

@@ -14,10 +14,12 @@ use crate::sends::put_requests;
 use crate::sends::requests_size;
 use crate::sends::term_at;
 use frames::Entry;
+use frames::Fields;
 ghost use mathlib.Core.Path.{_≡_};
 ghost use mathlib.Core.Bool.{true};
 ghost use mathlib.Core.List.{[], _∷_};
 ghost use Prim.Native.Nat.{_≤_, _<_};
+ghost use Rattle.frames.specs.Limits.{log-limit};
 ghost use lib.ListN.{length};
 ghost use Rattle.node.specs.Record.{leader, good};
 ghost use Rattle.node.specs.Commit.{settle};
@@ -44,8 +46,8 @@ fn no_entries() -> [Entry; Node::ENTRIES] {
 
 // A candidate asks for votes.
 fn stand(n: Node, terms: &[u32], orders: &[u64], journal: &mut [u8], room: &mut [u8]) -> Step
-    requires { ⌜ length (now terms) ≡ 256 ⌝ }
-    requires { ⌜ length (now orders) ≡ 256 ⌝ }
+    requires { ⌜ length (now terms) ≡ log-limit ⌝ }
+    requires { ⌜ length (now orders) ≡ log-limit ⌝ }
     requires { ⌜ good (state-of n (now terms) (now orders)) ≡ true ⌝ }
     requires { ⌜ n .term < 4294967295 ⌝ }
     ensures { λ r. ⌜ _≡_ {A = Called} (record { answer = r; terms = now (terms .entry); orders = now (orders .entry); journal = now (journal .exit); room = now (room .exit) }) (written n (state-of n (now (terms .entry)) (now (orders .entry))) (standing (state-of n (now (terms .entry)) (now (orders .entry)))) (vote-requests (standing (state-of n (now (terms .entry)) (now (orders .entry))))) (now (terms .entry)) (now (orders .entry)) (now (journal .entry)) (now (room .entry))) ⌝ }
@@ -70,8 +72,8 @@ fn stand(n: Node, terms: &[u32], orders: &[u64], journal: &mut [u8], room: &mut 
 
 // "A majority already (one member): it leads at once."
 fn win(n: Node, terms: &[u32], orders: &[u64], journal: &mut [u8], room: &mut [u8]) -> Step
-    requires { ⌜ length (now terms) ≡ 256 ⌝ }
-    requires { ⌜ length (now orders) ≡ 256 ⌝ }
+    requires { ⌜ length (now terms) ≡ log-limit ⌝ }
+    requires { ⌜ length (now orders) ≡ log-limit ⌝ }
     requires { ⌜ good (state-of n (now terms) (now orders)) ≡ true ⌝ }
     requires { ⌜ n .term < 4294967295 ⌝ }
     ensures { λ r. ⌜ _≡_ {A = Called} (record { answer = r; terms = now (terms .entry); orders = now (orders .entry); journal = now (journal .exit); room = now (room .exit) }) (written n (state-of n (now (terms .entry)) (now (orders .entry))) (settle (leading (standing (state-of n (now (terms .entry)) (now (orders .entry)))))) (appends (settle (leading (standing (state-of n (now (terms .entry)) (now (orders .entry))))))) (now (terms .entry)) (now (orders .entry)) (now (journal .entry)) (now (room .entry))) ⌝ }
@@ -101,8 +103,8 @@ pub fn run_timeout(
     journal: &mut [u8],
     room: &mut [u8],
 ) -> Step
-    requires { ⌜ length (now terms) ≡ 256 ⌝ }
-    requires { ⌜ length (now orders) ≡ 256 ⌝ }
+    requires { ⌜ length (now terms) ≡ log-limit ⌝ }
+    requires { ⌜ length (now orders) ≡ log-limit ⌝ }
     requires { ⌜ good (state-of n (now terms) (now orders)) ≡ true ⌝ }
     ensures { λ r. ⌜ _≡_ {A = Called} (record { answer = r; terms = now (terms .entry); orders = now (orders .entry); journal = now (journal .exit); room = now (room .exit) }) (run (timeout (state-of n (now (terms .entry)) (now (orders .entry)))) n (now (terms .entry)) (now (orders .entry)) (now (journal .entry)) (now (room .entry))) ⌝ }
 {
@@ -125,8 +127,8 @@ pub fn run_prompt(
     journal: &mut [u8],
     room: &mut [u8],
 ) -> Step
-    requires { ⌜ length (now terms) ≡ 256 ⌝ }
-    requires { ⌜ length (now orders) ≡ 256 ⌝ }
+    requires { ⌜ length (now terms) ≡ log-limit ⌝ }
+    requires { ⌜ length (now orders) ≡ log-limit ⌝ }
     requires { ⌜ good (state-of n (now terms) (now orders)) ≡ true ⌝ }
     ensures { λ r. ⌜ _≡_ {A = Called} (record { answer = r; terms = now (terms .entry); orders = now (orders .entry); journal = now (journal .exit); room = now (room .exit) }) (run (prompt (state-of n (now (terms .entry)) (now (orders .entry)))) n (now (terms .entry)) (now (orders .entry)) (now (journal .entry)) (now (room .entry))) ⌝ }
 {
@@ -163,14 +165,14 @@ pub fn run_order(
     journal: &mut [u8],
     room: &mut [u8],
 ) -> Step
-    requires { ⌜ length (now terms) ≡ 256 ⌝ }
-    requires { ⌜ length (now orders) ≡ 256 ⌝ }
+    requires { ⌜ length (now terms) ≡ log-limit ⌝ }
+    requires { ⌜ length (now orders) ≡ log-limit ⌝ }
     requires { ⌜ good (state-of n (now terms) (now orders)) ≡ true ⌝ }
     ensures { λ r. ⌜ _≡_ {A = Called} (record { answer = r; terms = now (terms .exit); orders = now (orders .exit); journal = now (journal .exit); room = now (room .exit) }) (run (order o (state-of n (now (terms .entry)) (now (orders .entry)))) n (now (terms .entry)) (now (orders .entry)) (now (journal .entry)) (now (room .entry))) ⌝ }
 {
     if n.role == 2 {
         let last = n.last;
-        if 256 <= last {
+        if Fields::LOG <= last {
             return refused(n, 4);
         }
         let next = ordered(n, &terms[..], &orders[..]);

@@ -2,11 +2,13 @@
 use crate::Node;
 use crate::mask::holds;
 use crate::mask::is_other;
+use frames::Fields;
 ghost use mathlib.Core.Path.{_≡_};
 ghost use mathlib.Core.Bool.{_&&_};
 ghost use mathlib.Core.List.{List, []};
 ghost use Prim.Native.Nat.{ℕ, _≤_};
 ghost use lib.Dec.{eqb};
+ghost use Rattle.frames.specs.Limits.{log-limit};
 ghost use lib.ListN.{length};
 ghost use Rattle.frames.specs.Rules.{is-box, in-order};
 ghost use Rattle.node.specs.Record.{leader, of-box, is-other, is-membership, is-vote, is-role, are-votes, is-sent, good};
@@ -58,7 +60,7 @@ fn are_votes(role: u8, votes: u8, members: u8, me: u8) -> bool
 }
 
 fn is_sent(sends: bool, last: u16, next: u16, matched: u16) -> bool
-    requires { ⌜ last ≤ 256 ⌝ }
+    requires { ⌜ last ≤ log-limit ⌝ }
     ensures { λ r. ⌜ r ≡ is-sent sends last next matched ⌝ }
 {
     if sends {
@@ -70,7 +72,7 @@ fn is_sent(sends: bool, last: u16, next: u16, matched: u16) -> bool
 fn is_sent_to(n: Node, i: u8) -> bool
     requires { ⌜ 1 ≤ i ⌝ }
     requires { ⌜ i ≤ 7 ⌝ }
-    requires { ⌜ n .last ≤ 256 ⌝ }
+    requires { ⌜ n .last ≤ log-limit ⌝ }
     ensures { λ r. ⌜ r ≡ is-sent (eqb (n .role) leader && is-other (n .me) (n .members) i) (n .last) (of-box (n .next) i) (of-box (n .matched) i) ⌝ }
 {
     let at = (i - 1) as usize;
@@ -101,7 +103,7 @@ fn in_order(terms: &[u32], last: usize, term: u32) -> bool
 
 // Next and match of all seven boxes.
 fn are_sent(n: Node) -> bool
-    requires { ⌜ n .last ≤ 256 ⌝ }
+    requires { ⌜ n .last ≤ log-limit ⌝ }
     ensures { λ r. ⌜ r ≡ are-sent (bare n) ⌝ }
 {
     is_sent_to(n, 1)
@@ -115,11 +117,11 @@ fn are_sent(n: Node) -> bool
 
 // Every rule of a record, whatever the orders of its log are.
 pub fn is_good(n: Node, terms: &[u32]) -> bool
-    requires { ⌜ length (now terms) ≡ 256 ⌝ }
+    requires { ⌜ length (now terms) ≡ log-limit ⌝ }
     ensures { λ r. ⌜ ((orders : List ℕ) → r ≡ good (state-of n (now (terms .entry)) orders)) ⌝ }
 {
     let last = n.last;
-    if 256 < last {
+    if Fields::LOG < last {
         return false;
     }
     if !is_membership(n.me, n.members) {

@@ -9,6 +9,7 @@ ghost use mathlib.Core.Path.{_≡_};
 ghost use mathlib.Core.Bool.{true};
 ghost use mathlib.Core.List.{List, [], _∷_, _++_};
 ghost use Prim.Native.Nat.{ℕ, _+_, _-_, _≤_, _<_};
+ghost use Rattle.frames.specs.Limits.{log-limit};
 ghost use lib.ListN.{length};
 ghost use Rattle.node.specs.Step.{standing, next-after, leading, ordered};
 ghost use Rattle.node.specs.Record.{leader, term-at, good};
@@ -41,7 +42,7 @@ pub fn standing(n: Node) -> Node
 fn next_after(n: Node, i: u8) -> u16
     requires { ⌜ 1 ≤ i ⌝ }
     requires { ⌜ i ≤ 7 ⌝ }
-    requires { ⌜ n .last ≤ 256 ⌝ }
+    requires { ⌜ n .last ≤ log-limit ⌝ }
     ensures { λ r. ⌜ r ≡ next-after (bare n) i ⌝ }
 {
     if is_other(n.me, n.members, i) {
@@ -52,7 +53,7 @@ fn next_after(n: Node, i: u8) -> u16
 
 // "Next = last index + 1, match = 0 for the others"
 pub fn leading(n: Node) -> Node
-    requires { ⌜ n .last ≤ 256 ⌝ }
+    requires { ⌜ n .last ≤ log-limit ⌝ }
     ensures { λ r. ⌜ r ≡ node-of (leading (bare n)) ⌝ }
 {
     let none = [0u16; Node::BOXES];
@@ -106,8 +107,8 @@ fn term_after(n: Node, terms: &[u32], index: u16) -> u32
 
 // The leader with one entry more, and its commit settled.
 pub fn ordered(n: Node, terms: &[u32], orders: &[u64]) -> Node
-    requires { ⌜ length (now terms) ≡ 256 ⌝ }
-    requires { ⌜ n .last < 256 ⌝ }
+    requires { ⌜ length (now terms) ≡ log-limit ⌝ }
+    requires { ⌜ n .last < log-limit ⌝ }
     requires { ⌜ n .role ≡ leader ⌝ }
     requires { ⌜ good (state-of n (now terms) (now orders)) ≡ true ⌝ }
     ensures { λ r. ⌜ ((o : ℕ) → r ≡ node-of (settle (ordered (state-of n (now (terms .entry)) (now (orders .entry))) o))) ⌝ }
