@@ -8,17 +8,16 @@ use std::time::{Duration, Instant};
 #[path = "../tests/twin/frames.rs"]
 mod frames;
 
+#[allow(dead_code)] // the box has a program of its own
+#[path = "../tests/library.rs"]
+mod library;
+
 use frames::{FIELDS, LONGEST_TEXT};
+use library::{frame_read, frame_write};
 
 /// Both sides are called through pointers of one type, so neither is inlined.
 type Read = unsafe extern "C" fn(*const u8, usize, *mut u64) -> u8;
 type Write = unsafe extern "C" fn(*const u64, *mut u8, usize) -> u8;
-
-#[link(name = "abi", kind = "static")]
-unsafe extern "C" {
-    fn frame_read(text: *const u8, text_len: usize, fields: *mut u64) -> u8;
-    fn frame_write(fields: *const u64, room: *mut u8, room_len: usize) -> u8;
-}
 
 unsafe extern "C" fn twin_read(text: *const u8, text_len: usize, fields: *mut u64) -> u8 {
     let text = unsafe { std::slice::from_raw_parts(text, text_len) };

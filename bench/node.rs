@@ -9,6 +9,11 @@ use std::time::{Duration, Instant};
 #[path = "../tests/twin/node.rs"]
 mod node;
 
+#[allow(dead_code)] // frames have a program of their own
+#[path = "../tests/library.rs"]
+mod library;
+
+use library::{box_order, box_prompt, box_timeout};
 use node::{Node, Numbers, Orders, Terms, FOLLOWER, LEADER};
 
 /// Both sides are called through pointers of one type, so neither is inlined.
@@ -34,41 +39,6 @@ type Order = unsafe extern "C" fn(
     room_len: usize,
     sizes: *mut u64,
 ) -> u8;
-
-#[link(name = "abi", kind = "static")]
-unsafe extern "C" {
-    fn box_timeout(
-        numbers: *mut u64,
-        terms: *const u32,
-        orders: *const u64,
-        journal: *mut u8,
-        journal_len: usize,
-        room: *mut u8,
-        room_len: usize,
-        sizes: *mut u64,
-    ) -> u8;
-    fn box_prompt(
-        numbers: *mut u64,
-        terms: *const u32,
-        orders: *const u64,
-        journal: *mut u8,
-        journal_len: usize,
-        room: *mut u8,
-        room_len: usize,
-        sizes: *mut u64,
-    ) -> u8;
-    fn box_order(
-        order: u64,
-        numbers: *mut u64,
-        terms: *mut u32,
-        orders: *mut u64,
-        journal: *mut u8,
-        journal_len: usize,
-        room: *mut u8,
-        room_len: usize,
-        sizes: *mut u64,
-    ) -> u8;
-}
 
 unsafe extern "C" fn twin_timeout(
     numbers: *mut u64,

@@ -8,15 +8,18 @@ use std::process::ExitCode;
 #[path = "twin/frames.rs"]
 mod frames;
 
+#[allow(dead_code)] // the box has a program of its own
+#[path = "library.rs"]
+mod library;
+
+#[path = "random.rs"]
+mod random;
+
 use frames::{FIELDS, LONGEST_TEXT};
+use library::{frame_read, frame_write};
+use random::Random;
 
 type Fields = [u64; FIELDS];
-
-#[link(name = "abi", kind = "static")]
-unsafe extern "C" {
-    fn frame_read(text: *const u8, text_len: usize, fields: *mut u64) -> u8;
-    fn frame_write(fields: *const u64, room: *mut u8, room_len: usize) -> u8;
-}
 
 // The places of the flat form.
 const KIND: usize = 0;
@@ -29,55 +32,6 @@ const COMMIT: usize = 6;
 const YES: usize = 7;
 const COUNT: usize = 8;
 const ENTRIES: usize = 9;
-
-/// splitmix64.
-struct Random(u64);
-
-impl Random {
-    fn next(&mut self) -> u64 {
-        self.0 = self.0.wrapping_add(0x9e37_79b9_7f4a_7c15);
-        let mut z = self.0;
-        z = (z ^ (z >> 30)).wrapping_mul(0xbf58_476d_1ce4_e5b9);
-        z = (z ^ (z >> 27)).wrapping_mul(0x94d0_49bb_1331_11eb);
-        z ^ (z >> 31)
-    }
-
-    fn for_input(seed: u64, number: u64) -> Random {
-        let mut of_seed = Random(seed);
-        Random(of_seed.next() ^ number.wrapping_mul(0xd134_2543_de82_ef95))
-    }
-
-    /// 0 to `bound` - 1.
-    fn below(&mut self, bound: usize) -> usize {
-        (self.next() % bound as u64) as usize
-    }
-
-    /// `low` to `high`, both included.
-    fn between(&mut self, low: u64, high: u64) -> u64 {
-        match (high - low).checked_add(1) {
-            Some(width) => low + self.next() % width,
-            None => self.next(),
-        }
-    }
-
-    fn one_in(&mut self, times: usize) -> bool {
-        self.below(times) == 0
-    }
-
-    fn of<T: Copy>(&mut self, choices: &[T]) -> T {
-        choices[self.below(choices.len())]
-    }
-
-    /// `low` to `high`, half of the time at or next to an end.
-    fn edged(&mut self, low: u64, high: u64) -> u64 {
-        if self.one_in(2) {
-            let step = self.between(0, 1).min(high - low);
-            self.of(&[low + step, high - step])
-        } else {
-            self.between(low, high)
-        }
-    }
-}
 
 // Messages that are frames, made so by 01's rules.
 

@@ -14,49 +14,16 @@ mod node;
 #[path = "twin/records.rs"]
 mod records;
 
-use records::{Random, Record, COMMIT, LAST, MATCH, MEMBERS, NUMBERS, ROLE, TERM};
+#[allow(dead_code)] // frames have a program of their own
+#[path = "library.rs"]
+mod library;
 
-#[link(name = "abi", kind = "static")]
-unsafe extern "C" {
-    fn box_start(me: u8, mask: u8, numbers: *mut u64, room: *mut u8, room_len: usize) -> u64;
-    fn box_timeout(
-        numbers: *mut u64,
-        terms: *const u32,
-        orders: *const u64,
-        journal: *mut u8,
-        journal_len: usize,
-        room: *mut u8,
-        room_len: usize,
-        sizes: *mut u64,
-    ) -> u8;
-    fn box_prompt(
-        numbers: *mut u64,
-        terms: *const u32,
-        orders: *const u64,
-        journal: *mut u8,
-        journal_len: usize,
-        room: *mut u8,
-        room_len: usize,
-        sizes: *mut u64,
-    ) -> u8;
-    fn box_order(
-        order: u64,
-        numbers: *mut u64,
-        terms: *mut u32,
-        orders: *mut u64,
-        journal: *mut u8,
-        journal_len: usize,
-        room: *mut u8,
-        room_len: usize,
-        sizes: *mut u64,
-    ) -> u8;
-    fn box_handed_out(
-        numbers: *const u64,
-        terms: *const u32,
-        orders: *const u64,
-        count: *mut u64,
-    ) -> u8;
-}
+#[path = "random.rs"]
+mod random;
+
+use library::{box_handed_out, box_order, box_prompt, box_start, box_timeout};
+use random::Random;
+use records::{Record, COMMIT, LAST, MATCH, MEMBERS, NUMBERS, ROLE, TERM};
 
 #[derive(Clone, Copy, Debug)]
 enum Event {

@@ -2,6 +2,8 @@
 //! 01, and garbage. They are made from 01's rules alone, so that a rule that
 //! the twin forgets is found as well.
 
+use crate::random::Random;
+
 pub const NUMBERS: usize = 22;
 
 // The places of the flat form; box i has the place i - 1 after these two.
@@ -28,55 +30,6 @@ pub struct Record {
     pub numbers: [u64; NUMBERS],
     pub terms: [u32; 256],
     pub orders: [u64; 256],
-}
-
-/// splitmix64.
-pub struct Random(u64);
-
-impl Random {
-    pub fn for_input(seed: u64, number: u64) -> Random {
-        let mut of_seed = Random(seed);
-        Random(of_seed.next() ^ number.wrapping_mul(0xd134_2543_de82_ef95))
-    }
-
-    pub fn next(&mut self) -> u64 {
-        self.0 = self.0.wrapping_add(0x9e37_79b9_7f4a_7c15);
-        let mut z = self.0;
-        z = (z ^ (z >> 30)).wrapping_mul(0xbf58_476d_1ce4_e5b9);
-        z = (z ^ (z >> 27)).wrapping_mul(0x94d0_49bb_1331_11eb);
-        z ^ (z >> 31)
-    }
-
-    /// 0 to `bound` - 1.
-    pub fn below(&mut self, bound: usize) -> usize {
-        (self.next() % bound as u64) as usize
-    }
-
-    /// `low` to `high`, both included.
-    pub fn between(&mut self, low: u64, high: u64) -> u64 {
-        match (high - low).checked_add(1) {
-            Some(width) => low + self.next() % width,
-            None => self.next(),
-        }
-    }
-
-    pub fn one_in(&mut self, times: usize) -> bool {
-        self.below(times) == 0
-    }
-
-    pub fn of<T: Copy>(&mut self, choices: &[T]) -> T {
-        choices[self.below(choices.len())]
-    }
-
-    /// `low` to `high`, half of the time at or next to an end.
-    pub fn edged(&mut self, low: u64, high: u64) -> u64 {
-        if self.one_in(2) {
-            let step = self.between(0, 1).min(high - low);
-            self.of(&[low + step, high - step])
-        } else {
-            self.between(low, high)
-        }
-    }
 }
 
 pub fn order(r: &mut Random) -> u64 {
