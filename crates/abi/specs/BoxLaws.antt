@@ -11,9 +11,9 @@ use Rattle.node.specs.declared.Node.{Node}
 use Rattle.node.specs.declared.Step.{Step}
 use Rattle.node.specs.declared.Started.{Started}
 use Rattle.node.specs.declared.Handed.{Handed}
-use Rattle.node.specs.Record.{State, is-membership}
-use Rattle.node.specs.Step.{Outcome}
-use Rattle.node.specs.Journal.{head}
+use Rattle.raft.specs.Record.{State, is-membership}
+use Rattle.raft.specs.Step.{Outcome}
+use Rattle.raft.specs.Journal.{head}
 use Rattle.node.specs.Calls.{Called, call, Begun, begun, handed}
 use Rattle.node.specs.EventLaws.{head-long}
 use Rattle.abi.specs.Boxes.{box-range, box-in, box-flat, sized-by, BoxFlat, box-event, StartFlat, box-begun, HandedFlat, box-handed}

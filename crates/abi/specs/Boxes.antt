@@ -8,8 +8,8 @@ use Rattle.node.specs.declared.Node.{Node}
 use Rattle.node.specs.declared.Step.{Step}
 use Rattle.node.specs.declared.Started.{Started}
 use Rattle.node.specs.declared.Handed.{Handed}
-use Rattle.node.specs.Record.{State}
-use Rattle.node.specs.Step.{Outcome}
+use Rattle.raft.specs.Record.{State}
+use Rattle.raft.specs.Step.{Outcome}
 use Rattle.node.specs.Calls.{Called, call, Begun, begun, handed}
 
 -- Each number fits the field that it is for.

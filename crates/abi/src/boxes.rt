@@ -5,8 +5,8 @@ ghost use mathlib.Core.Path.{_≡_};
 ghost use mathlib.Core.Bool.{cond};
 ghost use Prim.Native.Nat.{_≤_};
 ghost use lib.Dec.{eqb};
-ghost use Rattle.node.specs.Step.{timeout, prompt};
-ghost use Rattle.node.specs.Step.{order as ordering};
+ghost use Rattle.raft.specs.Step.{timeout, prompt};
+ghost use Rattle.raft.specs.Step.{order as ordering};
 ghost use Rattle.abi.specs.Boxes.{box-range, box-in, stored-7, box-flat, sized-by, BoxFlat, box-event, StartFlat, box-begun, HandedFlat, box-handed};
 
 // Each number fits the field that it is for.

@@ -1,11 +1,11 @@
 -- What is proved of room that a caller lends. Assumes nothing.
 use Prim.Native.Nat.{ℕ, suc, _+_, _/_, _%_, _^_, _≤_, _<_}
-use native.Mathlib.Nat.{add-assoc, mod-eq-of-lt}
+use native.Mathlib.Nat.{add-zero, add-assoc, mod-eq-of-lt}
 use native.Mathlib.Numerals.{add-one}
 use native.Mathlib.Omega.{arith}
 use mathlib.Core.Path.{_≡_, refl, sym, ap, _∙_}
-use mathlib.Core.List.{List, [], _∷_, _++_, append-assoc}
-use lib.ListN.{length, take, drop, set, length-append, length-take, length-drop}
+use mathlib.Core.List.{List, [], _∷_, _++_, append-assoc, append-nil}
+use lib.ListN.{length, take, drop, set, length-append, length-take, length-drop, take-append-drop}
 use lib.Seq.{take-append-le, take-at, drop-append-add, drop-drop, length-take-le, sets-eq}
 use Rattle.digits.specs.Digits.{digit, hex, big-endian, spelt}
 use Rattle.digits.specs.Room.{over}
@@ -15,6 +15,11 @@ use Rattle.digits.specs.Laws.{spelt-halves, length-spelt}
 pub length-over : (d : List ℕ) (at : ℕ) (s : List ℕ) → at + length s ≤ length d → length (over d at s) ≡ length d
 unfolding over
 length-over d at s h = simp (length-append, length-take, length-drop) (omega arith)
+
+-- nothing written
+pub over-nothing : (d : List ℕ) (at : ℕ) → d ≡ over d at []
+unfolding over
+over-nothing d at = rw (append-nil, add-zero) (sym (take-append-drop at d))
 
 -- two texts written one behind the other are one text
 pub over-over : (d : List ℕ) (at : ℕ) (a b : List ℕ) → at + length a + length b ≤ length d

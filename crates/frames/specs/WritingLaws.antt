@@ -77,7 +77,7 @@ unfolding over
 stored-one d at c h = sets-eq (c ∷ []) d at (omega (arith, add-one at))
 
 -- the entries up to a place, and then the one there
-listed-suc : (es : List Entry) (at n : ℕ) → listed es at (suc n) ≡ listed es at n ++ (getD es (at + n) no-entry ∷ [])
+pub listed-suc : (es : List Entry) (at n : ℕ) → listed es at (suc n) ≡ listed es at n ++ (getD es (at + n) no-entry ∷ [])
 unfolding listed
 listed-suc es at zero = rw add-zero
 listed-suc es at (suc n) = rw (listed-suc es (suc at) n, suc-add at n, add-suc at n)

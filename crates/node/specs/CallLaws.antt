@@ -14,28 +14,16 @@ use Rattle.frames.specs.declared.Entry.{Entry}
 use Rattle.frames.specs.Limits.{log-limit}
 use Rattle.frames.specs.Rules.{is-box, follows, in-order}
 use Rattle.node.specs.declared.Node.{Node}
-use Rattle.node.specs.Majority.{bit, holds}
-use Rattle.node.specs.Record.{State, last-index, is-sent-to, sends-to, is-membership, is-vote, is-role, are-votes, good}
-use Rattle.node.specs.RecordLaws.{box-range}
-use Rattle.node.specs.Step.{Outcome}
+use Rattle.raft.specs.Majority.{bit, holds}
+use Rattle.raft.specs.Record.{State, last-index, is-sent-to, sends-to, is-membership, is-vote, is-role, are-votes, good}
+use Rattle.raft.specs.RecordLaws.{box-range}
+use Rattle.raft.specs.Step.{Outcome}
 use Rattle.node.specs.Calls.{entries-of, state-of, bare, untouched, run, call}
+pub use Rattle.raft.specs.LentLaws.{length-entries-of, entries-more}
 
 -- the bit of a box, as a shift makes it
 pub bit-shift : (i : ℕ) → i ≤ 7 → 1 * 2 ^ (i - 1) % 256 ≡ bit i
 bit-shift i h = eqb-true _ _ (at-each (λ k. eqb (1 * 2 ^ (k - 1) % 256) (bit k)) 8 refl i (omega arith))
-
--- the lent log has as many entries as the struct counts
-pub length-entries-of : (terms orders : List ℕ) (at n : ℕ) → length (entries-of terms orders at n) ≡ n
-unfolding entries-of
-length-entries-of terms orders at zero = refl
-length-entries-of terms orders at (suc n) = ap suc (length-entries-of terms orders (suc at) n)
-
--- one entry more, behind the others
-entries-more : (terms orders : List ℕ) (at n : ℕ)
-    → entries-of terms orders at (suc n) ≡ entries-of terms orders at n ++ (record { term = getD terms (at + n) 0; order = getD orders (at + n) 0 } ∷ [])
-unfolding entries-of
-entries-more terms orders at zero = rw add-zero
-entries-more terms orders at (suc n) = rw (entries-more terms orders (suc at) n, suc-add at n, add-suc at n)
 
 -- the term of the last entry, or what stood before all of them
 unfoldable pub final : ℕ → List Entry → ℕ

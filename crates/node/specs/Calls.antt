@@ -12,15 +12,11 @@ use Rattle.node.specs.declared.Node.{Node}
 use Rattle.node.specs.declared.Step.{Step}
 use Rattle.node.specs.declared.Started.{Started}
 use Rattle.node.specs.declared.Handed.{Handed}
-use Rattle.node.specs.Record.{State, fresh, is-membership, good}
-use Rattle.node.specs.Sends.{texts}
-use Rattle.node.specs.Journal.{head, journaled}
-use Rattle.node.specs.Step.{Outcome, done, refuse}
-
--- So many entries of the lent log, from a place on.
-unfoldable pub entries-of : List ℕ → List ℕ → ℕ → ℕ → List Entry
-entries-of terms orders at zero = []
-entries-of terms orders at (suc n) = record { term = getD terms at 0; order = getD orders at 0 } ∷ entries-of terms orders (suc at) n
+use Rattle.raft.specs.Record.{State, fresh, is-membership, good}
+use Rattle.raft.specs.Sends.{texts}
+use Rattle.raft.specs.Journal.{head, journaled}
+use Rattle.raft.specs.Step.{Outcome, done, refuse}
+unfoldable pub use Rattle.raft.specs.Lent.{entries-of, terms-of, orders-of}
 
 -- The record that the struct and the lent log are.
 abbrev pub state-of : Node → List ℕ → List ℕ → State
@@ -57,13 +53,6 @@ node-of s =
       next = s .next;
       matched = s .matched;
     }
-
--- The lent log with a record's entries in it: what stands past them stays.
-unfoldable pub terms-of : List Entry → List ℕ
-terms-of log = map (λ e. e .term) log
-
-unfoldable pub orders-of : List Entry → List ℕ
-orders-of log = map (λ e. e .order) log
 
 -- What a call answers, and everything that was lent, as the call leaves it.
 pub record Called : Type 0 where

@@ -15,41 +15,18 @@ use Rattle.frames.specs.declared.Entry.{Entry}
 use Rattle.frames.specs.Message.{Message}
 use Rattle.frames.specs.WritingLaws.{length-spell, chars-entries, stored-one}
 use Rattle.node.specs.declared.Node.{Node}
-use Rattle.node.specs.Record.{State, term-at}
-use Rattle.node.specs.Commit.{matches, matching, is-matched, settle}
-use Rattle.node.specs.CommitLaws.{Ranged, better, best, settled-quick}
-use Rattle.node.specs.Sends.{texts}
-use Rattle.node.specs.Journal.{head, Line, line-text, kept, same-stored, line-of, journaled}
-use Rattle.node.specs.Step.{standing, leading}
+use Rattle.raft.specs.Record.{State, term-at}
+use Rattle.raft.specs.Commit.{matches, matching, is-matched, settle}
+use Rattle.raft.specs.CommitLaws.{Ranged, better, best, settled-quick}
+use Rattle.raft.specs.Sends.{texts}
+use Rattle.raft.specs.Journal.{head, Line, line-text, kept, same-stored, line-of, journaled}
+use Rattle.raft.specs.Step.{standing, leading}
 use Rattle.node.specs.Calls.{entries-of, state-of, bare, node-of, terms-of, orders-of, Called, untouched, fit, written}
 use Rattle.node.specs.CallLaws.{length-entries-of}
+use Rattle.raft.specs.LentLaws.{terms-are, orders-are, terms-more, orders-more}
 use Rattle.node.specs.SizeLaws.{over-next}
 
 -- ---- the lent log
-
--- the terms of the lent log's entries
-terms-are : (terms orders : List ℕ) (at n : ℕ) → at + n ≤ length terms → terms-of (entries-of terms orders at n) ≡ take n (drop at terms)
-unfolding terms-of entries-of
-terms-are terms orders at zero h = refl
-terms-are terms orders at (suc n) h = rw (drop-cons terms at 0 (omega arith), terms-are terms orders (suc at) n (omega arith))
-
--- and their orders
-orders-are : (terms orders : List ℕ) (at n : ℕ) → at + n ≤ length orders → orders-of (entries-of terms orders at n) ≡ take n (drop at orders)
-unfolding orders-of entries-of
-orders-are terms orders at zero h = refl
-orders-are terms orders at (suc n) h = rw (drop-cons orders at 0 (omega arith), orders-are terms orders (suc at) n (omega arith))
-
--- one entry more has one term more
-terms-more : (log : List Entry) (e : Entry) → terms-of (log ++ (e ∷ [])) ≡ terms-of log ++ (e .term ∷ [])
-unfolding terms-of
-terms-more [] e = refl
-terms-more (x ∷ log) e = rw (terms-more log e)
-
--- and one order more
-orders-more : (log : List Entry) (e : Entry) → orders-of (log ++ (e ∷ [])) ≡ orders-of log ++ (e .order ∷ [])
-unfolding orders-of
-orders-more [] e = refl
-orders-more (x ∷ log) e = rw (orders-more log e)
 
 -- a list's beginning, written over it, changes nothing
 own : (d : List ℕ) (n : ℕ) → n ≤ length d → d ≡ over d 0 (take n d)
@@ -110,7 +87,7 @@ kept-more [] es = refl
 kept-more (x ∷ l) es = rw (eq-eqb (x .term) (x .term) refl, eq-eqb (x .order) (x .order) refl, kept-more l es)
 
 -- and where nothing comes
-kept-same : (l : List Entry) → kept l l ≡ length l
+pub kept-same : (l : List Entry) → kept l l ≡ length l
 kept-same l = ap (kept l) (sym (append-nil l)) ∙ kept-more l []
 
 -- a record that stays as it is leaves no line

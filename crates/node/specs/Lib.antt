@@ -1,24 +1,11 @@
--- The box: its record and rules, majority, commit, what it sends, its journal lines, and what each event does; then what is proved of them.
-pub mod Majority
-pub mod Newer
-pub mod Record
-pub mod Commit
-pub mod Sends
-pub mod Journal
-pub mod Step
+-- The calls of a box: the struct, the lent log and the room, and what each call leaves in them; then what is proved of them.
 pub mod Calls
-pub mod RecordLaws
-pub mod MajorityLaws
-pub mod CommitLaws
-pub mod StepLaws
-pub mod SendLaws
-pub mod FitLaws
 pub mod SendSizes
 pub mod CallLaws
 pub mod SizeLaws
 pub mod EventLaws
 pub mod RoleLaws
+pub mod Turns
 pub mod TurnLaws
 pub mod OutcomeLaws
 pub mod OrderLaws
-pub mod Readings

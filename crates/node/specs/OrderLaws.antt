@@ -13,16 +13,16 @@ use Rattle.frames.specs.declared.Entry.{Entry}
 use Rattle.frames.specs.Limits.{log-limit}
 use Rattle.frames.specs.Fields.{no-entry, listed}
 use Rattle.node.specs.declared.Node.{Node}
-use Rattle.node.specs.Record.{State, leader, term-at, good}
-use Rattle.node.specs.Commit.{settle}
-use Rattle.node.specs.CommitLaws.{Ranged, ranged, best, best-low}
-use Rattle.node.specs.Sends.{appends, texts}
+use Rattle.raft.specs.Record.{State, leader, term-at, good}
+use Rattle.raft.specs.Commit.{settle}
+use Rattle.raft.specs.CommitLaws.{Ranged, ranged, best, best-low}
+use Rattle.raft.specs.Sends.{appends, texts}
 use Rattle.node.specs.SendSizes.{appends-size, Sendable}
-use Rattle.node.specs.Journal.{Line, line-text, journaled}
-use Rattle.node.specs.Step.{ordered, order}
+use Rattle.raft.specs.Journal.{Line, line-text, journaled}
+use Rattle.raft.specs.Step.{ordered, order}
 use Rattle.node.specs.Calls.{entries-of, state-of, bare, node-of, terms-of, orders-of, untouched, written, run}
-use Rattle.node.specs.RecordLaws.{Good, good-facts, facts-good}
-use Rattle.node.specs.StepLaws.{good-ordered, good-settle}
+use Rattle.raft.specs.RecordLaws.{Good, good-facts, facts-good}
+use Rattle.raft.specs.StepLaws.{good-ordered, good-settle}
 use Rattle.node.specs.CallLaws.{length-entries-of}
 use Rattle.node.specs.SizeLaws.{appends-bare}
 use Rattle.node.specs.EventLaws.{best-bare, more-terms, more-orders, more-entries, journaled-more, line-long}

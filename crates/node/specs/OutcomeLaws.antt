@@ -9,11 +9,11 @@ use borrow.Author.Tests.{eq-eqb, ne-eqb, le-leb, lt-leb}
 use Rattle.digits.specs.Room.{over}
 use Rattle.node.specs.declared.Node.{Node}
 use Rattle.node.specs.declared.Step.{Step}
-use Rattle.node.specs.Majority.{bit, majority}
-use Rattle.node.specs.Record.{State, leader}
-use Rattle.node.specs.Commit.{settle}
-use Rattle.node.specs.Sends.{vote-requests, appends, texts}
-use Rattle.node.specs.Step.{Outcome, done, refuse, standing, leading, won, timeout, order, ordered, prompt}
+use Rattle.raft.specs.Majority.{bit, majority}
+use Rattle.raft.specs.Record.{State, leader}
+use Rattle.raft.specs.Commit.{settle}
+use Rattle.raft.specs.Sends.{vote-requests, appends, texts}
+use Rattle.raft.specs.Step.{Outcome, done, refuse, standing, leading, won, timeout, order, ordered, prompt}
 use Rattle.node.specs.Calls.{entries-of, state-of, node-of, Called, untouched, written, run}
 use Rattle.node.specs.EventLaws.{own-terms, own-orders, journaled-none, written-fits, written-room-short}
 use Rattle.node.specs.RoleLaws.{node-same}

@@ -7,9 +7,9 @@ use mathlib.Core.List.{List, []}
 use lib.Dec.{eqb, ltb}
 use lib.ListN.{length}
 use Rattle.node.specs.declared.Node.{Node}
-use Rattle.node.specs.Record.{State, last-index, term-at}
-use Rattle.node.specs.Commit.{settle, matches, matching, is-matched}
-use Rattle.node.specs.CommitLaws.{better, best, best-low, Ranged}
+use Rattle.raft.specs.Record.{State, last-index, term-at}
+use Rattle.raft.specs.Commit.{settle, matches, matching, is-matched}
+use Rattle.raft.specs.CommitLaws.{better, best, best-low, Ranged}
 use Rattle.node.specs.Calls.{entries-of, state-of, bare, node-of}
 use Rattle.node.specs.CallLaws.{length-entries-of}
 use Rattle.node.specs.EventLaws.{settle-node}

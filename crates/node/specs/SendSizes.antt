@@ -9,7 +9,7 @@ use Rattle.frames.specs.declared.Entry.{Entry}
 use Rattle.frames.specs.Fields.{no-entry}
 use Rattle.frames.specs.Message.{Message, vote-request}
 use Rattle.node.specs.declared.Node.{Node}
-use Rattle.node.specs.Record.{State, last-index, of-box, is-other}
+use Rattle.raft.specs.Record.{State, last-index, of-box, is-other}
 
 -- The message to one box, or none.
 abbrev pub only : State → (ℕ → Message) → ℕ → List Message

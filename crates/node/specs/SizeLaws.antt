@@ -12,51 +12,19 @@ use lib.Seq.{drop-drop, take-all}
 use borrow.Author.Tests.{lt-ltb}
 use Rattle.digits.specs.Room.{over}
 use Rattle.digits.specs.RoomLaws.{over-over}
+pub use Rattle.digits.specs.RoomLaws.{over-nothing}
 use Rattle.frames.specs.declared.Entry.{Entry}
 use Rattle.frames.specs.Message.{Message, vote-request, append, text}
 use Rattle.frames.specs.Reading.{size, text-size}
 use Rattle.frames.specs.Fields.{no-entry, listed}
 use Rattle.frames.specs.WritingLaws.{length-text}
 use Rattle.node.specs.declared.Node.{Node}
-use Rattle.node.specs.Record.{State, last-index, term-at, of-box, is-other}
-use Rattle.node.specs.Sends.{append-to, append-after, to-others, texts, vote-requests, appends, vote-request-to}
+use Rattle.raft.specs.Record.{State, last-index, term-at, of-box, is-other}
+use Rattle.raft.specs.Sends.{append-to, append-after, to-others, texts, vote-requests, appends, vote-request-to}
 use Rattle.node.specs.SendSizes.{only, request, size-if, requests-size, entry-count, append-size, appends-size, slot}
 use Rattle.node.specs.Calls.{entries-of, state-of, bare}
 use Rattle.node.specs.CallLaws.{length-entries-of}
-
--- ---- the lent log, entry by entry
-
-pub entry-of : (terms orders : List ℕ) (at n i : ℕ) → i < n
-    → getD (entries-of terms orders at n) i no-entry ≡ record { term = getD terms (at + i) 0; order = getD orders (at + i) 0 }
-unfolding entries-of
-entry-of terms orders at zero i h = absurd (omega arith)
-entry-of terms orders at (suc n) zero h = rw add-zero
-entry-of terms orders at (suc n) (suc i) h = entry-of terms orders (suc at) n i (omega arith) ∙ rw (suc-add at i, ← add-suc at i)
-
--- the term at an index is the lent one
-pub term-there : (terms orders : List ℕ) (last index : ℕ) → 1 ≤ index → index ≤ last → term-at (entries-of terms orders 0 last) index ≡ getD terms (index - 1) 0
-unfolding term-at
-term-there terms orders last zero l h = absurd (omega arith)
-term-there terms orders last (suc i) l h =
-    ap (λ (e : Entry). e .term) (entry-of terms orders 0 last i h) ∙ ap (λ (k : ℕ). getD terms k 0) (omega arith)
-
-pub term-none : (log : List Entry) → term-at log 0 ≡ 0
-unfolding term-at
-term-none log = refl
-
--- the entries from a place on
-pub drop-entries : (terms orders : List ℕ) (at n p : ℕ) → drop p (entries-of terms orders at n) ≡ entries-of terms orders (at + p) (n - p)
-unfolding entries-of
-drop-entries terms orders at n zero = rw (add-zero, sub-zero)
-drop-entries terms orders at zero (suc p) = rw zero-sub
-drop-entries terms orders at (suc n) (suc p) = drop-entries terms orders (suc at) n p ∙ rw (suc-sub-suc, suc-add at p, ← add-suc at p)
-
--- and at most so many of them
-pub take-entries : (terms orders : List ℕ) (at n k : ℕ) → take k (entries-of terms orders at n) ≡ entries-of terms orders at (min k n)
-unfolding entries-of
-take-entries terms orders at n zero = rw zero-min
-take-entries terms orders at zero (suc k) = rw min-zero
-take-entries terms orders at (suc n) (suc k) = rw (suc-min-suc, take-entries terms orders (suc at) n k)
+pub use Rattle.raft.specs.LentLaws.{entry-of, term-there, term-none, drop-entries, take-entries}
 
 -- ---- texts
 
@@ -101,11 +69,6 @@ over-rest d at t h =
       append-nil,
     )
     (over-part d at t h)
-
--- nothing written
-pub over-nothing : (d : List ℕ) (at : ℕ) → d ≡ over d at []
-unfolding over
-over-nothing d at = rw (append-nil, add-zero) (sym (take-append-drop at d))
 
 -- one text and then the next behind it
 pub over-next : (d : List ℕ) {d₁ d₂ : List ℕ} (a b : List ℕ) (at : ℕ) → at ≡ length a → length a + length b ≤ length d

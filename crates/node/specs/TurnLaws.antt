@@ -10,17 +10,17 @@ use Rattle.frames.specs.declared.Entry.{Entry}
 use Rattle.frames.specs.Limits.{log-limit}
 use Rattle.frames.specs.Fields.{listed}
 use Rattle.node.specs.declared.Node.{Node}
-use Rattle.node.specs.Majority.{bit, majority}
-use Rattle.node.specs.Record.{State, leader, last-index, last-term, term-at, is-other, of-box, good}
-use Rattle.node.specs.Commit.{settle}
-use Rattle.node.specs.CommitLaws.{Ranged, ranged}
-use Rattle.node.specs.Sends.{vote-request-to, to-others, vote-requests, appends, texts}
+use Rattle.raft.specs.Majority.{bit, majority}
+use Rattle.raft.specs.Record.{State, leader, last-index, last-term, term-at, is-other, of-box, good}
+use Rattle.raft.specs.Commit.{settle}
+use Rattle.raft.specs.CommitLaws.{Ranged, ranged}
+use Rattle.raft.specs.Sends.{vote-request-to, to-others, vote-requests, appends, texts}
 use Rattle.node.specs.SendSizes.{request, requests-size, appends-size, Sendable}
-use Rattle.node.specs.Journal.{Line, line-text, journaled}
-use Rattle.node.specs.Step.{standing, leading, ordered}
+use Rattle.raft.specs.Journal.{Line, line-text, journaled}
+use Rattle.raft.specs.Step.{standing, leading, ordered}
 use Rattle.node.specs.Calls.{entries-of, state-of, bare, node-of, terms-of, orders-of}
-use Rattle.node.specs.RecordLaws.{Good, good-facts, facts-good, Member, member-facts, leader-sent}
-use Rattle.node.specs.StepLaws.{good-standing, good-won, good-settle, good-ordered}
+use Rattle.raft.specs.RecordLaws.{Good, good-facts, facts-good, Member, member-facts, leader-sent}
+use Rattle.raft.specs.StepLaws.{good-standing, good-won, good-settle, good-ordered}
 use Rattle.node.specs.CallLaws.{length-entries-of}
 use Rattle.node.specs.SizeLaws.{request-long, requests-long, appends-bare}
 use Rattle.node.specs.EventLaws.{own-terms, own-orders, journaled-turn, journaled-more, line-long}

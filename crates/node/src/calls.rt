@@ -10,8 +10,8 @@ use crate::record::is_good;
 ghost use mathlib.Core.Path.{_≡_};
 ghost use Rattle.frames.specs.Limits.{log-limit};
 ghost use lib.ListN.{length};
-ghost use Rattle.node.specs.Step.{timeout, prompt};
-ghost use Rattle.node.specs.Step.{order as ordering};
+ghost use Rattle.raft.specs.Step.{timeout, prompt};
+ghost use Rattle.raft.specs.Step.{order as ordering};
 ghost use Rattle.node.specs.Calls.{Called, call, handed};
 
 pub fn timeout(n: Node, terms: &[u32], orders: &[u64], journal: &mut [u8], room: &mut [u8]) -> Step

@@ -8,9 +8,9 @@ ghost use mathlib.Core.Path.{_≡_};
 ghost use mathlib.Core.Bool.{cond, _&&_};
 ghost use Prim.Native.Nat.{_≤_};
 ghost use lib.Dec.{eqb, ltb};
-ghost use Rattle.node.specs.Majority.{bit};
-ghost use Rattle.node.specs.Commit.{matches, if-matches, matching, is-matched};
-ghost use Rattle.node.specs.CommitLaws.{better, best};
+ghost use Rattle.raft.specs.Majority.{bit};
+ghost use Rattle.raft.specs.Commit.{matches, if-matches, matching, is-matched};
+ghost use Rattle.raft.specs.CommitLaws.{better, best};
 ghost use Rattle.node.specs.Calls.{bare};
 
 // What box i matches; the leader itself its own last index.

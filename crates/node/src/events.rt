@@ -21,10 +21,10 @@ ghost use mathlib.Core.List.{[], _∷_};
 ghost use Prim.Native.Nat.{_≤_, _<_};
 ghost use Rattle.frames.specs.Limits.{log-limit};
 ghost use lib.ListN.{length};
-ghost use Rattle.node.specs.Record.{leader, good};
-ghost use Rattle.node.specs.Commit.{settle};
-ghost use Rattle.node.specs.Sends.{vote-requests, appends};
-ghost use Rattle.node.specs.Step.{standing, leading, timeout, order, prompt};
+ghost use Rattle.raft.specs.Record.{leader, good};
+ghost use Rattle.raft.specs.Commit.{settle};
+ghost use Rattle.raft.specs.Sends.{vote-requests, appends};
+ghost use Rattle.raft.specs.Step.{standing, leading, timeout, order, prompt};
 ghost use Rattle.frames.specs.Fields.{listed};
 ghost use Rattle.node.specs.Calls.{state-of, Called, untouched, written, run};
 
@@ -39,7 +39,7 @@ pub fn refused(n: Node, number: u8) -> Step
     }
 }
 
-fn no_entries() -> [Entry; Node::ENTRIES] {
+pub fn no_entries() -> [Entry; Node::ENTRIES] {
     let e = Entry { term: 0, order: 0 };
     [e; Node::ENTRIES]
 }

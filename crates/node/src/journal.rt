@@ -6,7 +6,7 @@ ghost use Prim.Native.Nat.{_+_, _*_, _≤_};
 ghost use lib.ListN.{length};
 ghost use Rattle.digits.specs.Room.{over};
 ghost use Rattle.frames.specs.Fields.{listed};
-ghost use Rattle.node.specs.Journal.{head, Line, line-text};
+ghost use Rattle.raft.specs.Journal.{head, Line, line-text};
 
 // "head 01, 11, box, mask"
 pub fn put_head(room: &mut [u8], me: u8, mask: u8)

@@ -4,15 +4,15 @@ mod commit;
 mod events;
 mod journal;
 mod mask;
-mod newer;
 mod record;
 mod roles;
 mod sends;
+mod turns;
 
 ghost use mathlib.Core.Path.{_≡_};
-ghost use Rattle.node.specs.Record.{fresh};
-ghost use Rattle.node.specs.Step.{timeout, prompt};
-ghost use Rattle.node.specs.Step.{order as ordering};
+ghost use Rattle.raft.specs.Record.{fresh};
+ghost use Rattle.raft.specs.Step.{timeout, prompt};
+ghost use Rattle.raft.specs.Step.{order as ordering};
 ghost use Rattle.node.specs.Calls.{node-of, Called, call, Begun, begun, handed};
 
 // What a box holds but its log. Box i's next and match stand at place i-1; role is 0 follower, 1 candidate, 2 leader.

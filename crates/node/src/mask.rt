@@ -1,8 +1,8 @@
 // Sets of boxes as masks: box i has bit i-1.
 ghost use mathlib.Core.Path.{_≡_};
 ghost use Prim.Native.Nat.{_≤_};
-ghost use Rattle.node.specs.Majority.{bit, holds, majority};
-ghost use Rattle.node.specs.Record.{is-other};
+ghost use Rattle.raft.specs.Majority.{bit, holds, majority};
+ghost use Rattle.raft.specs.Record.{is-other};
 
 pub fn bit(i: u8) -> u8
     requires { ⌜ 1 ≤ i ⌝ }

@@ -11,7 +11,7 @@ ghost use lib.Dec.{eqb};
 ghost use Rattle.frames.specs.Limits.{log-limit};
 ghost use lib.ListN.{length};
 ghost use Rattle.frames.specs.Rules.{is-box, in-order};
-ghost use Rattle.node.specs.Record.{leader, of-box, is-other, is-membership, is-vote, is-role, are-votes, is-sent, good};
+ghost use Rattle.raft.specs.Record.{leader, of-box, is-other, is-membership, is-vote, is-role, are-votes, is-sent, good};
 ghost use Rattle.node.specs.Calls.{entries-of, state-of, bare};
 ghost use Rattle.node.specs.CallLaws.{are-sent};
 

@@ -11,10 +11,11 @@ ghost use mathlib.Core.List.{List, [], _∷_, _++_};
 ghost use Prim.Native.Nat.{ℕ, _+_, _-_, _≤_, _<_};
 ghost use Rattle.frames.specs.Limits.{log-limit};
 ghost use lib.ListN.{length};
-ghost use Rattle.node.specs.Step.{standing, next-after, leading, ordered};
-ghost use Rattle.node.specs.Record.{leader, term-at, good};
-ghost use Rattle.node.specs.Commit.{settle};
-ghost use Rattle.node.specs.CommitLaws.{Ranged};
+ghost use Rattle.raft.specs.Step.{standing, next-after, leading, ordered};
+ghost use Rattle.raft.specs.Record.{follower, leader, none-sent, term-at, of-box, good};
+ghost use Rattle.raft.specs.Receive.{taken, adding, match-after, heard};
+ghost use Rattle.raft.specs.Commit.{settle};
+ghost use Rattle.raft.specs.CommitLaws.{Ranged};
 ghost use Rattle.node.specs.Calls.{entries-of, bare, state-of, node-of};
 
 // "term + 1, candidate, vote and votes = itself"
@@ -119,4 +120,87 @@ pub fn ordered(n: Node, terms: &[u32], orders: &[u64]) -> Node
     let mut next = longer;
     next.commit = commit_at(longer, found, term_after(longer, terms, found));
     next
+}
+
+// "Any message with a higher term: take that term, vote 0, follower"
+pub fn taken(n: Node, term: u32) -> Node
+    ensures { λ r. ⌜ ((terms orders : List ℕ) → state-of r terms orders ≡ taken term (state-of n terms orders)) ⌝ }
+    ensures { λ r. ⌜ r .last ≡ n .last ⌝ }
+{
+    if n.term < term {
+        let none = [0u16; Node::BOXES];
+        return Node {
+            me: n.me,
+            members: n.members,
+            term,
+            vote: 0,
+            last: n.last,
+            commit: n.commit,
+            role: 0,
+            votes: 0,
+            next: none,
+            matched: none,
+        };
+    }
+    n
+}
+
+// "A candidate becomes follower", with so many entries and this commit.
+pub fn following(n: Node, last: u16, commit: u16) -> Node
+    ensures { λ r. ⌜ r ≡ record { me = n .me; members = n .members; term = n .term; vote = n .vote; last = last; commit = commit; role = follower; votes = 0; next = none-sent; matched = none-sent } ⌝ }
+{
+    let none = [0u16; Node::BOXES];
+    Node {
+        me: n.me,
+        members: n.members,
+        term: n.term,
+        vote: n.vote,
+        last,
+        commit,
+        role: 0,
+        votes: 0,
+        next: none,
+        matched: none,
+    }
+}
+
+// "At a candidate a yes adds the sender"
+pub fn adding(n: Node, from: u8) -> Node
+    requires { ⌜ 1 ≤ from ⌝ }
+    requires { ⌜ from ≤ 7 ⌝ }
+    ensures { λ r. ⌜ ((terms orders : List ℕ) → state-of r terms orders ≡ adding (state-of n terms orders) from) ⌝ }
+    ensures { λ r. ⌜ r .last ≡ n .last ⌝ }
+{
+    let mut next = n;
+    next.votes = n.votes | bit(from);
+    next
+}
+
+// What an append answer tells of its sender.
+pub fn heard(n: Node, from: u8, reply: u8, index: u16) -> Node
+    requires { ⌜ 1 ≤ from ⌝ }
+    requires { ⌜ from ≤ 7 ⌝ }
+    requires { ⌜ match-after reply index (of-box (n .matched) from) ≤ log-limit ⌝ }
+    requires { ⌜ 1 ≤ of-box (n .next) from ⌝ }
+    ensures { λ r. ⌜ ((terms orders : List ℕ) → state-of r terms orders ≡ heard (state-of n terms orders) from reply index) ⌝ }
+    ensures { λ r. ⌜ r .last ≡ n .last ⌝ }
+{
+    let at = (from - 1) as usize;
+    let mut next = n.next;
+    let mut matched = n.matched;
+    let m = rules::match_after(reply, index, matched[at]);
+    next[at] = rules::next_heard(reply, next[at], m);
+    matched[at] = m;
+    Node {
+        me: n.me,
+        members: n.members,
+        term: n.term,
+        vote: n.vote,
+        last: n.last,
+        commit: n.commit,
+        role: n.role,
+        votes: n.votes,
+        next,
+        matched,
+    }
 }

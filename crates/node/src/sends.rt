@@ -10,8 +10,8 @@ ghost use mathlib.Core.List.{List};
 ghost use Prim.Native.Nat.{ℕ, _+_, _-_, _≤_, _<_};
 ghost use lib.ListN.{length, getD};
 ghost use Rattle.digits.specs.Room.{over};
-ghost use Rattle.node.specs.Record.{term-at, of-box};
-ghost use Rattle.node.specs.Sends.{append-to, to-others, texts, appends};
+ghost use Rattle.raft.specs.Record.{term-at, of-box};
+ghost use Rattle.raft.specs.Sends.{append-to, to-others, texts, appends};
 ghost use Rattle.node.specs.Calls.{entries-of, state-of, bare};
 ghost use Rattle.node.specs.SendSizes.{slot, request, only, size-if, requests-size, entry-count, append-size, appends-size, Sendable};
 ghost use Rattle.node.specs.SizeLaws.{slots};
@@ -113,7 +113,7 @@ fn entry_count(last: u16, previous: u16) -> u8
     (left % 256) as u8
 }
 
-fn append_size(n: Node, i: u8) -> usize
+pub fn append_size(n: Node, i: u8) -> usize
     requires { ⌜ 1 ≤ i ⌝ }
     requires { ⌜ i ≤ 7 ⌝ }
     ensures { λ r. ⌜ r ≡ append-size (bare n) i ⌝ }
@@ -167,7 +167,14 @@ fn slots(terms: &[u32], orders: &[u64], at: usize, last: usize) -> [Entry; Field
     [a, b, c, d]
 }
 
-fn put_append(room: &mut [u8], at: usize, n: Node, terms: &[u32], orders: &[u64], i: u8) -> usize
+pub fn put_append(
+    room: &mut [u8],
+    at: usize,
+    n: Node,
+    terms: &[u32],
+    orders: &[u64],
+    i: u8,
+) -> usize
     requires { ⌜ 1 ≤ i ⌝ }
     requires { ⌜ i ≤ 7 ⌝ }
     requires { ⌜ Sendable n (now terms) (now orders) ⌝ }

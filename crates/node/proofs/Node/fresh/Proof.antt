@@ -1,6 +1,6 @@
 -- Each field is the definition's own.
 use mathlib.Core.Path.{refl}
-use Rattle.node.specs.Record.{fresh}
+use Rattle.raft.specs.Record.{fresh}
 use Rattle.node.proofs.Node.fresh.Statement.{statement}
 use Rattle.node.proofs.Node.fresh.Tie as tie
 

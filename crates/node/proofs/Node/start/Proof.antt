@@ -4,7 +4,7 @@ use native.Mathlib.Omega.{arith}
 use mathlib.Core.Path.{sym, _∙_}
 use lib.ListN.{length}
 use borrow.Author.Tests.{not-true, not-false, lt-leb, le-leb}
-use Rattle.node.specs.Journal.{head}
+use Rattle.raft.specs.Journal.{head}
 use Rattle.node.specs.Calls.{begun}
 use Rattle.node.specs.EventLaws.{head-long}
 use Rattle.node.proofs.Node.start.Statement.{statement}

@@ -1,6 +1,6 @@
 -- The chain is the definition's own.
 use borrow.Author.Needs.{needs}
-use Rattle.node.specs.CommitLaws.{best}
+use Rattle.raft.specs.CommitLaws.{best}
 use Rattle.node.proofs.commit.best.Statement.{statement}
 use Rattle.node.proofs.commit.best.Tie as tie
 

@@ -2,7 +2,7 @@
 use borrow.Author.Needs.{needs}
 use mathlib.Core.Path.{sym, _∙_}
 use borrow.Author.Tests.{lt-ltb, le-ltb}
-use Rattle.node.specs.CommitLaws.{better}
+use Rattle.raft.specs.CommitLaws.{better}
 use Rattle.node.proofs.commit.better.Statement.{statement}
 use Rattle.node.proofs.commit.better.Tie as tie
 

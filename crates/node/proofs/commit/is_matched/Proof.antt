@@ -1,7 +1,7 @@
 -- The test is the definition's own.
 use borrow.Author.Needs.{needs}
 use mathlib.Core.Path.{_∙_}
-use Rattle.node.specs.Commit.{is-matched}
+use Rattle.raft.specs.Commit.{is-matched}
 use Rattle.node.proofs.commit.is_matched.Statement.{statement}
 use Rattle.node.proofs.commit.is_matched.Tie as tie
 

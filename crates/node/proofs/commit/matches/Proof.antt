@@ -1,7 +1,7 @@
 -- The definition's two cases; the struct counts its log's entries.
 use borrow.Author.Needs.{needs}
 use borrow.Author.Tests.{eq-eqb, ne-eqb}
-use Rattle.node.specs.Commit.{matches}
+use Rattle.raft.specs.Commit.{matches}
 use Rattle.node.specs.CallLaws.{length-entries-of}
 use Rattle.node.proofs.commit.matches.Statement.{statement}
 use Rattle.node.proofs.commit.matches.Tie as tie

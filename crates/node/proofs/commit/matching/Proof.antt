@@ -1,6 +1,6 @@
 -- The sum is the definition's own.
 use borrow.Author.Needs.{needs}
-use Rattle.node.specs.Commit.{matching}
+use Rattle.raft.specs.Commit.{matching}
 use Rattle.node.proofs.commit.matching.Statement.{statement}
 use Rattle.node.proofs.commit.matching.Tie as tie
 

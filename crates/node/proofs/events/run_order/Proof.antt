@@ -3,9 +3,9 @@ use borrow.Author.Needs.{needs}
 use native.Mathlib.Omega.{arith}
 use mathlib.Core.Path.{refl, ap, sym, _∙_}
 use Rattle.digits.specs.Room.{over}
-use Rattle.node.specs.Commit.{settle}
-use Rattle.node.specs.Sends.{appends}
-use Rattle.node.specs.Step.{ordered}
+use Rattle.raft.specs.Commit.{settle}
+use Rattle.raft.specs.Sends.{appends}
+use Rattle.raft.specs.Step.{ordered}
 use Rattle.node.specs.Calls.{state-of}
 use Rattle.node.specs.EventLaws.{written-fits, written-line-short, written-room-short}
 use Rattle.node.specs.OrderLaws.{order-line, order-line-long, order-sends, order-sent, order-terms, order-orders, order-sendable, order-not, order-full, order-run}

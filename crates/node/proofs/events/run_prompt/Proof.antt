@@ -3,7 +3,7 @@ use borrow.Author.Needs.{needs}
 use native.Mathlib.Omega.{arith}
 use mathlib.Core.Path.{refl, ap, sym, _∙_}
 use Rattle.node.specs.Calls.{state-of}
-use Rattle.node.specs.RecordLaws.{good-facts}
+use Rattle.raft.specs.RecordLaws.{good-facts}
 use Rattle.node.specs.SizeLaws.{appends-bare}
 use Rattle.node.specs.RoleLaws.{node-same}
 use Rattle.node.specs.TurnLaws.{own-last, sendable}

@@ -3,8 +3,8 @@ use borrow.Author.Needs.{needs}
 use native.Mathlib.Omega.{arith}
 use mathlib.Core.Path.{refl, ap, sym, _∙_}
 use Rattle.digits.specs.Room.{over}
-use Rattle.node.specs.Sends.{vote-requests}
-use Rattle.node.specs.Step.{standing}
+use Rattle.raft.specs.Sends.{vote-requests}
+use Rattle.raft.specs.Step.{standing}
 use Rattle.node.specs.Calls.{state-of}
 use Rattle.node.specs.EventLaws.{node-standing, written-fits, written-line-short, written-room-short}
 use Rattle.node.specs.TurnLaws.{own-box, own-last, stand-terms, stand-orders, stand-line, stand-line-long, stand-sends, stand-sent}

@@ -3,12 +3,12 @@ use borrow.Author.Needs.{needs}
 use native.Mathlib.Omega.{arith}
 use mathlib.Core.Path.{refl, ap, sym, _∙_}
 use Rattle.digits.specs.Room.{over}
-use Rattle.node.specs.Commit.{settle}
-use Rattle.node.specs.Sends.{appends}
-use Rattle.node.specs.Step.{standing, leading}
+use Rattle.raft.specs.Commit.{settle}
+use Rattle.raft.specs.Sends.{appends}
+use Rattle.raft.specs.Step.{standing, leading}
 use Rattle.node.specs.Calls.{state-of}
-use Rattle.node.specs.RecordLaws.{good-facts}
-use Rattle.node.specs.StepLaws.{good-won, good-settle}
+use Rattle.raft.specs.RecordLaws.{good-facts}
+use Rattle.raft.specs.StepLaws.{good-won, good-settle}
 use Rattle.node.specs.EventLaws.{written-fits, written-line-short, written-room-short}
 use Rattle.node.specs.TurnLaws.{own-box, own-last, sendable, stand-last, win-node, win-next, win-leads, win-room, win-ranged, won-sent, won-terms, won-orders, win-line, win-line-long, won-sends}
 use Rattle.node.proofs.events.win.Statement.{statement}

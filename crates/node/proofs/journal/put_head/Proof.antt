@@ -4,7 +4,7 @@ use native.Mathlib.Omega.{arith}
 use mathlib.Core.List.{[], _∷_}
 use Rattle.frames.specs.Message.{number}
 use Rattle.frames.specs.WritingLaws.{put-none, put-next, put-ended}
-use Rattle.node.specs.Journal.{head}
+use Rattle.raft.specs.Journal.{head}
 use Rattle.node.proofs.journal.put_head.Statement.{statement}
 use Rattle.node.proofs.journal.put_head.Tie as tie
 

@@ -10,7 +10,7 @@ use Rattle.frames.specs.Message.{number, entry-fields}
 use Rattle.frames.specs.Fields.{listed}
 use Rattle.frames.specs.Laws.{length-listed}
 use Rattle.frames.specs.WritingLaws.{chars-listed, put-none, put-next, put-more, put-ended}
-use Rattle.node.specs.Journal.{line-text}
+use Rattle.raft.specs.Journal.{line-text}
 use Rattle.node.proofs.journal.put_line.Statement.{statement}
 use Rattle.node.proofs.journal.put_line.Tie as tie
 

@@ -1,7 +1,7 @@
 -- The test is the definition's own.
 use borrow.Author.Needs.{needs}
 use mathlib.Core.Path.{refl}
-use Rattle.node.specs.Majority.{holds}
+use Rattle.raft.specs.Majority.{holds}
 use Rattle.node.proofs.mask.holds.Statement.{statement}
 use Rattle.node.proofs.mask.holds.Tie as tie
 

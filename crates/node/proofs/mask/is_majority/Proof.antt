@@ -3,7 +3,7 @@ use native.Mathlib.Omega.{arith}
 use mathlib.Core.Path.{refl}
 use lib.Bits.{bitAnd, and-lt}
 use lib.Count.{ones-le}
-use Rattle.node.specs.Majority.{majority}
+use Rattle.raft.specs.Majority.{majority}
 use Rattle.node.proofs.mask.is_majority.Statement.{statement}
 use Rattle.node.proofs.mask.is_majority.Tie as tie
 

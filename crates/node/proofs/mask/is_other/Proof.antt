@@ -1,7 +1,7 @@
 -- The test is the definition's own.
 use borrow.Author.Needs.{needs}
 use borrow.Author.Tests.{eq-eqb, ne-eqb}
-use Rattle.node.specs.Record.{is-other}
+use Rattle.raft.specs.Record.{is-other}
 use Rattle.node.proofs.mask.is_other.Statement.{statement}
 use Rattle.node.proofs.mask.is_other.Tie as tie
 

@@ -1,6 +1,6 @@
 -- Seven boxes, one rule; the struct counts its log's entries.
 use borrow.Author.Needs.{needs}
-use Rattle.node.specs.Record.{sends-to}
+use Rattle.raft.specs.Record.{sends-to}
 use Rattle.node.specs.CallLaws.{length-entries-of}
 use Rattle.node.proofs.record.are_sent.Statement.{statement}
 use Rattle.node.proofs.record.are_sent.Tie as tie

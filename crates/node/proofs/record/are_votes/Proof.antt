@@ -1,7 +1,7 @@
 -- The test is the definition's own.
 use borrow.Author.Needs.{needs}
 use borrow.Author.Tests.{eq-eqb, ne-eqb}
-use Rattle.node.specs.Record.{are-votes}
+use Rattle.raft.specs.Record.{are-votes}
 use Rattle.node.proofs.record.are_votes.Statement.{statement}
 use Rattle.node.proofs.record.are_votes.Tie as tie
 

@@ -1,8 +1,8 @@
 -- The test is the definition's own.
 use borrow.Author.Needs.{needs}
 use mathlib.Core.Path.{ap, sym, _∙_}
-use Rattle.node.specs.Record.{is-membership}
-use Rattle.node.specs.RecordLaws.{box-range}
+use Rattle.raft.specs.Record.{is-membership}
+use Rattle.raft.specs.RecordLaws.{box-range}
 use Rattle.node.proofs.record.is_membership.Statement.{statement}
 use Rattle.node.proofs.record.is_membership.Tie as tie
 

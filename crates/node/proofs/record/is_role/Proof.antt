@@ -1,6 +1,6 @@
 -- The test is the definition's own.
 use mathlib.Core.Path.{refl}
-use Rattle.node.specs.Record.{is-role}
+use Rattle.raft.specs.Record.{is-role}
 use Rattle.node.proofs.record.is_role.Statement.{statement}
 use Rattle.node.proofs.record.is_role.Tie as tie
 

@@ -1,6 +1,6 @@
 -- The test is the definition's own.
 use borrow.Author.Needs.{needs}
-use Rattle.node.specs.Record.{is-sent}
+use Rattle.raft.specs.Record.{is-sent}
 use Rattle.node.proofs.record.is_sent.Statement.{statement}
 use Rattle.node.proofs.record.is_sent.Tie as tie
 

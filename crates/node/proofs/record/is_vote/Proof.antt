@@ -2,8 +2,8 @@
 use borrow.Author.Needs.{needs}
 use mathlib.Core.Path.{ap, sym, _∙_}
 use borrow.Author.Tests.{eq-eqb, ne-eqb}
-use Rattle.node.specs.Record.{is-vote}
-use Rattle.node.specs.RecordLaws.{box-range}
+use Rattle.raft.specs.Record.{is-vote}
+use Rattle.raft.specs.RecordLaws.{box-range}
 use Rattle.node.proofs.record.is_vote.Statement.{statement}
 use Rattle.node.proofs.record.is_vote.Tie as tie
 

@@ -1,7 +1,7 @@
 -- The quick way to the commit, over the log with the new entry.
 use borrow.Author.Needs.{needs}
 use native.Mathlib.Omega.{arith}
-use Rattle.node.specs.Step.{ordered}
+use Rattle.raft.specs.Step.{ordered}
 use Rattle.node.specs.Calls.{state-of}
 use Rattle.node.specs.EventLaws.{settle-node}
 use Rattle.node.specs.OrderLaws.{longer, longer-ranged, longer-term, node-best}

@@ -1,6 +1,6 @@
 -- Each field is the definition's own; the struct counts its log's entries.
 use borrow.Author.Needs.{needs}
-use Rattle.node.specs.Step.{standing}
+use Rattle.raft.specs.Step.{standing}
 use Rattle.node.specs.CallLaws.{length-entries-of}
 use Rattle.node.proofs.roles.standing.Statement.{statement}
 use Rattle.node.proofs.roles.standing.Tie as tie

@@ -6,7 +6,7 @@ use Prim.Native.Nat.{suc, _-_}
 use mathlib.Core.Path.{_≡_}
 use mathlib.Core.List.{[], _∷_, _++_}
 use lib.ListN.{length}
-use Rattle.node.specs.Record.{term-at}
+use Rattle.raft.specs.Record.{term-at}
 use Rattle.node.specs.Calls.{entries-of}
 use Rattle.node.specs.CallLaws.{length-entries-of}
 use Rattle.node.specs.OrderLaws.{term-front, term-new}

@@ -1,7 +1,7 @@
 -- Seven boxes, each behind the one before.
 use borrow.Author.Needs.{needs}
 use native.Mathlib.Omega.{arith}
-use Rattle.node.specs.Sends.{append-to, appends}
+use Rattle.raft.specs.Sends.{append-to, appends}
 use Rattle.node.specs.SendSizes.{appends-size}
 use Rattle.node.specs.Calls.{state-of}
 use Rattle.node.specs.SizeLaws.{append-bare, appends-bare, over-seven}

@@ -13,13 +13,13 @@ use Rattle.frames.specs.Limits.{boxes, log-limit}
 use Rattle.frames.specs.Message.{Message}
 use Rattle.frames.specs.Rules.{in-order}
 use Rattle.frames.specs.Clauses.{four}
-use Rattle.node.specs.Majority.{bit, holds, majority, within}
-use Rattle.node.specs.Record.{State, candidate, leader, last-index, of-box, is-other, none-sent, is-vote, is-role, are-votes, is-sent, sends-to, is-sent-to, good}
-use Rattle.node.specs.Commit.{highest, settled, settle}
-use Rattle.node.specs.Sends.{vote-requests, appends}
-use Rattle.node.specs.Step.{done, refuse, last-of-terms, standing, next-after, leading, led, won, timeout, ordered, order, prompt}
-use Rattle.node.specs.RecordLaws.{at-box, range-box, sent-facts, Good, good-facts, facts-good, Member, member-facts, self-voted}
-use Rattle.node.specs.CommitLaws.{settled-most}
+use Rattle.raft.specs.Majority.{bit, holds, majority, within}
+use Rattle.raft.specs.Record.{State, candidate, leader, last-index, of-box, is-other, none-sent, is-vote, is-role, are-votes, is-sent, sends-to, is-sent-to, good}
+use Rattle.raft.specs.Commit.{highest, settled, settle}
+use Rattle.raft.specs.Sends.{vote-requests, appends}
+use Rattle.raft.specs.Step.{done, refuse, last-of-terms, standing, next-after, leading, led, won, timeout, ordered, order, prompt}
+use Rattle.raft.specs.RecordLaws.{at-box, range-box, sent-facts, Good, good-facts, facts-good, Member, member-facts, self-voted}
+use Rattle.raft.specs.CommitLaws.{settled-most}
 
 -- ---- the entry rule over a longer log and a later term
 
@@ -174,14 +174,14 @@ good-ordered s o g r l =
 -- ---- the events, case by case
 
 -- what holds of an outcome's record and messages holds of those that it is said to have
-same-done : (P : State → List Message → Type 0) (s t : State) (ms ns : List Message) → done s ms ≡ done t ns → P s ms → P t ns
+pub same-done : (P : State → List Message → Type 0) (s t : State) (ms ns : List Message) → done s ms ≡ done t ns → P s ms → P t ns
 same-done P s t ms ns e p =
     let x : s ≡ t = cc in
     let y : ms ≡ ns = cc in
     rw (← x, ← y) p
 
 -- a refusal is no step
-no-done : {A : Type 0} (n : ℕ) (t : State) (ms : List Message) → refuse n ≡ done t ms → A
+pub no-done : {A : Type 0} (n : ℕ) (t : State) (ms : List Message) → refuse n ≡ done t ms → A
 no-done n t ms e = let never : _≡_ {A = ℕ} 0 1 = cc in absurd (omega arith)
 
 -- The box that stands does not lead, and its term is not the last.
@@ -192,6 +192,10 @@ pub record Stands (s : State) : Type 0 where
 -- What a leader's step comes to: its commit is settled before its appends are written.
 abbrev pub Led : (State → List Message → Type 0) → State → Type 0
 Led P s = P (settle s) (appends (settle s))
+
+-- "It is settled before the step's messages are written, so they carry it."
+pub led-carries : (s t : State) (ms : List Message) → led s ≡ done t ms → ms ≡ appends t
+led-carries s t ms e = same-done (λ u ns. ns ≡ appends u) (settle s) t (appends (settle s)) ms e refl
 
 -- What holds of each end of a timeout holds of its record and messages.
 pub timeout-ends : (P : State → List Message → Type 0) (s : State) → (s .role ≡ leader → P s [])

@@ -15,9 +15,9 @@ use Rattle.frames.specs.Limits.{boxes}
 use Rattle.frames.specs.Rules.{is-box, follows, in-order}
 use Rattle.frames.specs.Fields.{no-entry}
 use Rattle.frames.specs.Clauses.{four}
-use Rattle.node.specs.MajorityLaws.{at-box}
-use Rattle.node.specs.Record.{State, last-index, term-at, of-box, good, is-membership, is-sent, sends-to, is-sent-to}
-use Rattle.node.specs.Commit.{matches, matching, is-matched, highest, settled}
+use Rattle.raft.specs.MajorityLaws.{at-box}
+use Rattle.raft.specs.Record.{State, last-index, term-at, of-box, good, is-membership, is-sent, sends-to, is-sent-to}
+use Rattle.raft.specs.Commit.{matches, matching, is-matched, highest, settled}
 
 -- ---- tests
 

@@ -11,12 +11,12 @@ use Rattle.frames.specs.Limits.{boxes, log-limit, entry-limit}
 use Rattle.frames.specs.Message.{Message}
 use Rattle.frames.specs.Rules.{is-start, is-pair, in-order, obeys}
 use Rattle.frames.specs.Fields.{no-entry}
-use Rattle.node.specs.Record.{State, leader, last-index, last-term, term-at, of-box, is-other, good}
-use Rattle.node.specs.Commit.{settle}
-use Rattle.node.specs.Sends.{vote-request-to, append-after, append-to, to-others, vote-requests, appends}
-use Rattle.node.specs.Step.{done, standing, leading, timeout, ordered, order, prompt}
-use Rattle.node.specs.RecordLaws.{range-box, Good, good-facts, member-facts, self-voted, leader-sent}
-use Rattle.node.specs.StepLaws.{in-order-most, follows-facts, facts-follow, good-standing, good-settle, good-ordered, good-won, timeout-ends, order-ends, prompt-ends}
+use Rattle.raft.specs.Record.{State, leader, last-index, last-term, term-at, of-box, is-other, good}
+use Rattle.raft.specs.Commit.{settle}
+use Rattle.raft.specs.Sends.{vote-request-to, append-after, append-to, to-others, vote-requests, appends}
+use Rattle.raft.specs.Step.{done, standing, leading, timeout, ordered, order, prompt}
+use Rattle.raft.specs.RecordLaws.{range-box, Good, good-facts, member-facts, self-voted, leader-sent}
+use Rattle.raft.specs.StepLaws.{in-order-most, follows-facts, facts-follow, good-standing, good-settle, good-ordered, good-won, timeout-ends, order-ends, prompt-ends}
 
 -- ---- the entry rule over parts of a log
 
@@ -65,7 +65,7 @@ pair-there term log (suc n) l h =
 -- ---- one message
 
 -- a frame between two boxes, in a term of at least 1, starts as a frame does
-start-there : (s : State) → Good s → 1 ≤ s .term → (i : ℕ) → 1 ≤ i → i ≤ boxes → is-start (s .me) i (s .term) ≡ true
+pub start-there : (s : State) → Good s → 1 ≤ s .term → (i : ℕ) → 1 ≤ i → i ≤ boxes → is-start (s .me) i (s .term) ≡ true
 start-there s g t i l h =
     let m = member-facts (s .me) (s .members) (g .membership) in
     rw (range-box (s .me) (m .least) (m .most), range-box i l h, le-leb 1 (s .term) t)

@@ -9,9 +9,9 @@ use Rattle.digits.specs.Tests.{and-left, and-right}
 use Rattle.frames.specs.Limits.{boxes, log-limit}
 use Rattle.frames.specs.Rules.{is-box, in-order}
 use Rattle.frames.specs.Clauses.{four}
-use Rattle.node.specs.Majority.{holds}
-use Rattle.node.specs.Record.{State, leader, last-index, of-box, is-other, fresh, is-membership, is-vote, is-role, are-votes, is-sent, sends-to, is-sent-to, good}
-pub use Rattle.node.specs.MajorityLaws.{at-box}
+use Rattle.raft.specs.Majority.{holds}
+use Rattle.raft.specs.Record.{State, leader, last-index, of-box, is-other, fresh, is-membership, is-vote, is-role, are-votes, is-sent, sends-to, is-sent-to, good}
+pub use Rattle.raft.specs.MajorityLaws.{at-box}
 
 -- a box's number is from 1 to 7
 pub box-range : (i : ℕ) → is-box i ≡ true → (1 ≤ i) × (i ≤ boxes)

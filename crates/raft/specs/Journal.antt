@@ -6,7 +6,7 @@ use lib.Dec.{eqb}
 use lib.ListN.{length, drop}
 use Rattle.frames.specs.declared.Entry.{Entry}
 use Rattle.frames.specs.Message.{Field, number, entry-fields, spell, line-feed}
-use Rattle.node.specs.Record.{State}
+use Rattle.raft.specs.Record.{State}
 
 -- "head 01, 11, box, mask"
 unfoldable pub head : ℕ → ℕ → List ℕ

@@ -11,13 +11,13 @@ use Rattle.frames.specs.Message.{Message, entry-fields, table, sized, text}
 use Rattle.frames.specs.Rules.{in-order}
 use Rattle.frames.specs.Reading.{frame, reading}
 use Rattle.frames.specs.OneSpelling.{frame-when}
-use Rattle.node.specs.Record.{State, leader, last-index, term-at, of-box, is-other, good}
-use Rattle.node.specs.Commit.{settle}
-use Rattle.node.specs.Sends.{vote-request-to, append-after, append-to, vote-requests, appends}
-use Rattle.node.specs.Step.{done, last-of-terms, standing, leading, timeout, ordered, order, prompt}
-use Rattle.node.specs.RecordLaws.{Good, good-facts, member-facts, leader-sent}
-use Rattle.node.specs.StepLaws.{in-order-most, follows-facts, good-standing, good-settle, good-ordered, good-won, timeout-ends, order-ends, prompt-ends}
-use Rattle.node.specs.SendLaws.{in-order-drop, in-order-take, term-most, All, Obey, vote-requests-all, appends-all}
+use Rattle.raft.specs.Record.{State, leader, last-index, term-at, of-box, is-other, good}
+use Rattle.raft.specs.Commit.{settle}
+use Rattle.raft.specs.Sends.{vote-request-to, append-after, append-to, vote-requests, appends}
+use Rattle.raft.specs.Step.{done, last-of-terms, standing, leading, timeout, ordered, order, prompt}
+use Rattle.raft.specs.RecordLaws.{Good, good-facts, member-facts, leader-sent}
+use Rattle.raft.specs.StepLaws.{in-order-most, follows-facts, good-standing, good-settle, good-ordered, good-won, timeout-ends, order-ends, prompt-ends}
+use Rattle.raft.specs.SendLaws.{in-order-drop, in-order-take, term-most, All, Obey, vote-requests-all, appends-all}
 
 -- ---- what holds of each part of a list
 

@@ -4,8 +4,8 @@ use Prim.Native.Nat.{ℕ, zero, suc, _+_}
 use mathlib.Core.Bool.{Bool, cond, _&&_}
 use lib.Dec.{eqb, ltb, leb}
 use lib.ListN.{length}
-use Rattle.node.specs.Majority.{bit, holds, majority}
-use Rattle.node.specs.Record.{State, last-index, term-at, of-box}
+use Rattle.raft.specs.Majority.{bit, holds, majority}
+use Rattle.raft.specs.Record.{State, last-index, term-at, of-box}
 
 -- "The leader counts as matching its own last index."
 unfoldable pub matches : State → ℕ → ℕ

@@ -7,10 +7,10 @@ use lib.ListN.{length}
 use Rattle.frames.specs.declared.Entry.{Entry}
 use Rattle.frames.specs.Limits.{log-limit}
 use Rattle.frames.specs.Message.{Message}
-use Rattle.node.specs.Majority.{bit, majority}
-use Rattle.node.specs.Record.{State, follower, candidate, leader, last-index, is-other, none-sent}
-use Rattle.node.specs.Commit.{settle}
-use Rattle.node.specs.Sends.{vote-requests, appends}
+use Rattle.raft.specs.Majority.{bit, majority}
+use Rattle.raft.specs.Record.{State, follower, candidate, leader, last-index, is-other, none-sent}
+use Rattle.raft.specs.Commit.{settle}
+use Rattle.raft.specs.Sends.{vote-requests, appends}
 
 -- What an event comes to.
 pub data Outcome : Type 0 where

@@ -8,7 +8,7 @@ use Rattle.frames.specs.declared.Entry.{Entry}
 use Rattle.frames.specs.Limits.{boxes, log-limit}
 use Rattle.frames.specs.Rules.{is-box, in-order}
 use Rattle.frames.specs.Fields.{no-entry}
-use Rattle.node.specs.Majority.{holds, within}
+use Rattle.raft.specs.Majority.{holds, within}
 
 -- Roles, by number.
 abbrev pub follower : ℕ

@@ -1,18 +1,18 @@
 -- What is proved of majority, for the code and for safety. Assumes nothing.
-use Prim.Native.Nat.{ℕ, zero, suc, _+_, _-_, _*_, _/_, _%_, _^_, _≤_, _<_, min}
+use Prim.Native.Nat.{ℕ, zero, suc, _+_, _-_, _*_, _/_, _%_, _^_, _≤_, _<_, max, min}
 use native.Mathlib.Decide.{decLe}
-use native.Mathlib.Nat.{div-one, div-div-eq-div-mul, pow-succ'}
+use native.Mathlib.Nat.{le-refl, div-one, div-div-eq-div-mul, pow-succ'}
 use native.Mathlib.Omega.{arith}
-use mathlib.Core.Path.{_≡_, refl, sym, _∙_}
+use mathlib.Core.Path.{_≡_, refl, sym, ap, _∙_}
 use mathlib.Core.Bool.{Bool, true, false, not, _||_}
-use lib.Bits.{bitAnd, and-step, and-zero-r}
+use lib.Bits.{bitAnd, bitOr, and-step, or-step, and-zero-r, or-zero-l, or-shr}
 use lib.Count.{ones, ones-step, ones-le}
 use lib.Dec.{eqb}
-use borrow.Author.Tests.{eqb-true, ltb-true, not-true}
+use borrow.Author.Tests.{eqb-true, ltb-true, eq-eqb, not-true}
 use Rattle.digits.specs.Tests.{or-right, each-below, at-each}
 use Rattle.frames.specs.Limits.{boxes}
-use Rattle.node.specs.Majority.{bit, holds, majority}
-use Rattle.node.specs.Record.{is-other}
+use Rattle.raft.specs.Majority.{bit, holds, majority, within}
+use Rattle.raft.specs.Record.{is-other}
 
 -- ---- boxes and masks
 
@@ -37,6 +37,64 @@ majority-empty a = rw (and-zero-r a)
 pub most-held : (members a : ℕ) → majority members a ≡ true → ones members < 2 * ones (bitAnd a members)
 unfolding majority
 most-held members a h = ltb-true (ones members) (2 * ones (bitAnd a members)) h
+
+-- ---- masks within masks
+
+-- half of two masks together is their halves together, and so is the lowest digit
+and-half : (a m : ℕ) → (bitAnd a m / 2 ≡ bitAnd (a / 2) (m / 2)) × (bitAnd a m % 2 ≡ min (a % 2) (m % 2))
+and-half a m = omega (arith, and-step a m)
+
+or-half : (a b : ℕ) → (bitOr a b / 2 ≡ bitOr (a / 2) (b / 2)) × (bitOr a b % 2 ≡ max (a % 2) (b % 2))
+or-half a b = omega (arith, or-step a b)
+
+-- what is within a mask is not changed by it
+and-again : (k a m : ℕ) → m ≤ k → bitAnd (bitAnd a m) m ≡ bitAnd a m
+and-again zero a m l =
+    let none : m ≡ 0 = omega arith in
+    rw (none, and-zero-r (bitAnd a 0), and-zero-r a)
+and-again (suc k) a m l =
+    omega (
+      arith,
+      and-step (bitAnd a m) m,
+      and-half a m,
+      ap (λ x. bitAnd x (m / 2)) (and-half a m .0),
+      and-again k (a / 2) (m / 2) (omega arith),
+    )
+
+-- two parts of a mask are together a part of it
+or-again : (k a b m : ℕ) → a ≤ k → b ≤ k → bitAnd a m ≡ a → bitAnd b m ≡ b → bitAnd (bitOr a b) m ≡ bitOr a b
+or-again zero a b m l h p q =
+    let none : a ≡ 0 = omega arith in
+    rw (none, or-zero-l b) q
+or-again (suc k) a b m l h p q =
+    omega (
+      arith,
+      and-step (bitOr a b) m,
+      or-half a b,
+      ap (λ x. bitAnd x (m / 2)) (or-half a b .0),
+      and-half a m,
+      and-half b m,
+      or-again k (a / 2) (b / 2) (m / 2) (omega arith) (omega arith) (halves a p) (halves b q),
+    )
+  where
+    halves : (n : ℕ) → bitAnd n m ≡ n → bitAnd (n / 2) (m / 2) ≡ n / 2
+    halves n e = omega (arith, and-half n m)
+
+-- as a test
+pub within-or : (a b m : ℕ) → within a m ≡ true → within b m ≡ true → within (bitOr a b) m ≡ true
+within-or a b m p q = eq-eqb _ _ (or-again (a + b) a b m (omega arith) (omega arith) (eqb-true _ _ p) (eqb-true _ _ q))
+
+-- and hold what one of them holds
+pub holds-or : (a b i : ℕ) → holds a i ≡ true → holds (bitOr a b) i ≡ true
+unfolding holds
+holds-or a b i h =
+    eq-eqb (bitOr a b / bit i % 2) 1
+    (omega (arith, or-shr a b (i - 1), or-half (a / bit i) (b / bit i), eqb-true (a / bit i % 2) 1 h))
+
+-- "only members count"
+pub strangers : (members agreed : ℕ) → majority members agreed ≡ majority members (bitAnd agreed members)
+unfolding majority
+strangers members agreed = rw (and-again members agreed members (le-refl _))
 
 -- ---- one member
 
@@ -81,13 +139,7 @@ none-other members (suc k) (suc n) l a b h c d =
 
 -- a digit of two masks together, and the digits above it
 and-digits : (a m : ℕ) → ones (bitAnd a m) ≡ min (a % 2) (m % 2) + ones (bitAnd (a / 2) (m / 2))
-and-digits a m = rw (ones-step (bitAnd a m), low, high)
-  where
-    low : bitAnd a m % 2 ≡ min (a % 2) (m % 2)
-    low = omega (arith, and-step a m)
-
-    high : bitAnd a m / 2 ≡ bitAnd (a / 2) (m / 2)
-    high = omega (arith, and-step a m)
+and-digits a m = rw (ones-step (bitAnd a m), and-half a m .1, and-half a m .0)
 
 -- a digit of half a number is the next digit of the number
 half-digit : (m i : ℕ) → m / 2 / 2 ^ i % 2 ≡ m / 2 ^ suc i % 2

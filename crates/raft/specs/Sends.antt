@@ -5,7 +5,7 @@ use mathlib.Core.List.{List, [], _∷_, _++_}
 use lib.ListN.{length, take, drop}
 use Rattle.frames.specs.Limits.{entry-limit}
 use Rattle.frames.specs.Message.{Message, vote-request, append, text}
-use Rattle.node.specs.Record.{State, last-index, last-term, term-at, of-box, is-other}
+use Rattle.raft.specs.Record.{State, last-index, last-term, term-at, of-box, is-other}
 
 -- "vote request to every other member", with the last index and its term
 abbrev pub vote-request-to : State → ℕ → Message

@@ -1,0 +1,21 @@
+-- The box: its record and rules, majority, commit, what it sends, its journal lines, and what each event does; then what is proved of them.
+pub mod Majority
+pub mod Newer
+pub mod Record
+pub mod Commit
+pub mod Sends
+pub mod Journal
+pub mod Step
+pub mod Receive
+pub mod Lent
+pub mod JoinLaws
+pub mod LentLaws
+pub mod RecordLaws
+pub mod MajorityLaws
+pub mod CommitLaws
+pub mod StepLaws
+pub mod SendLaws
+pub mod FitLaws
+pub mod ReceiveLaws
+pub mod ReceiveSends
+pub mod Readings

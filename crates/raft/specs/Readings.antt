@@ -1,0 +1,145 @@
+-- 01, 'Readings from the bench': those marked P, one list and a single claim. Assumes nothing.
+use Prim.Native.Nat.{ℕ, _+_}
+use mathlib.Core.Path.{_≡_, refl}
+use mathlib.Core.Bool.{Bool, true, false, not, _&&_}
+use mathlib.Core.List.{List, [], _∷_, map}
+use lib.Count.{ones}
+use lib.Dec.{eqb}
+use Rattle.frames.specs.declared.Entry.{Entry}
+use Rattle.frames.specs.Message.{Message, vote-request, vote-answer, append, append-answer}
+use Rattle.frames.specs.Rules.{in-order, obeys}
+use Rattle.raft.specs.Majority.{holds, majority}
+use Rattle.raft.specs.Newer.{as-new}
+use Rattle.raft.specs.Record.{State, follower, leader, term-at, is-other, none-sent, good, is-membership, is-vote, is-role, are-votes, is-sent, sends-to}
+use Rattle.raft.specs.Commit.{matches, matching, is-matched, highest, settled}
+use Rattle.raft.specs.Step.{Outcome, done, refuse}
+use Rattle.raft.specs.Receive.{taken, lacks, agreed, stop, passes, joined, cuts-committed, joining, join, on-append, deliver}
+
+-- A log of these terms; the orders are all alike.
+abbrev pub entry : ℕ → Entry
+entry term = record { term = term; order = 0 }
+
+abbrev pub log-of : List ℕ → List Entry
+log-of terms = map entry terms
+
+-- "mask 1f, leader in term 4, .. commit 1", the log's terms, and the index that "two others match".
+unfoldable pub leads : List ℕ → ℕ → State
+leads terms n =
+    record {
+      me = 1;
+      members = 0x1f;
+      term = 4;
+      vote = 1;
+      log = log-of terms;
+      commit = 1;
+      role = leader;
+      votes = 0;
+      next = 0 ∷ (n + 1) ∷ (n + 1) ∷ 1 ∷ 1 ∷ 0 ∷ 0 ∷ [];
+      matched = 0 ∷ n ∷ n ∷ 0 ∷ 0 ∷ 0 ∷ 0 ∷ [];
+    }
+
+-- A good record settles its commit at an index.
+unfoldable pub settles-at : State → ℕ → Bool
+settles-at s n = good s && eqb (settled s) n
+
+-- "follower in term 4, its commit .., log terms 1,1,2": box 2 of mask 07.
+unfoldable pub follows-at : ℕ → State
+follows-at commit =
+    record {
+      me = 2;
+      members = 0x07;
+      term = 4;
+      vote = 0;
+      log = log-of (1 ∷ 1 ∷ 2 ∷ []);
+      commit = commit;
+      role = follower;
+      votes = 0;
+      next = none-sent;
+      matched = none-sent;
+    }
+
+-- "append of term 4, previous index 1 and term 1, one entry of term .., leader's commit ..", from box 1.
+unfoldable pub offer : (term commit : ℕ) → Message
+offer term commit = append 1 2 4 1 1 commit (log-of (term ∷ []))
+
+-- A log has these terms.
+abbrev pub has-terms : List Entry → List ℕ → Bool
+has-terms [] [] = true
+has-terms [] (t ∷ ts) = false
+has-terms (e ∷ es) [] = false
+has-terms (e ∷ es) (t ∷ ts) = eqb (e .term) t && has-terms es ts
+
+-- A message says yes to an append, and names an index.
+abbrev pub says-index : Message → ℕ → Bool
+says-index (vote-request from to term index prior) n = false
+says-index (vote-answer from to term reply) n = false
+says-index (append from to term index prior commit es) n = false
+says-index (append-answer from to term reply index) n = eqb reply 1 && eqb index n
+
+-- It is the only one.
+abbrev pub answers : List Message → ℕ → Bool
+answers [] n = false
+answers (m ∷ []) n = says-index m n
+answers (m ∷ k ∷ ms) n = false
+
+-- An append comes to a log of these terms, a commit, and the answer's index,
+abbrev pub comes-to : Outcome → List ℕ → (commit index : ℕ) → Bool
+comes-to (done t ms) terms commit index = has-terms (t .log) terms && eqb (t .commit) commit && answers ms index
+comes-to (refuse n) terms commit index = false
+
+-- or to an alarm.
+abbrev pub alarms : Outcome → ℕ → Bool
+alarms (done t ms) number = false
+alarms (refuse n) number = eqb n number
+
+-- A good record takes an append that is a frame so,
+unfoldable pub joins-to : State → Message → List ℕ → (commit index : ℕ) → Bool
+joins-to s m terms commit index = good s && obeys m && comes-to (deliver m s) terms commit index
+
+-- and so it alarms.
+unfoldable pub alarms-at : State → Message → ℕ → Bool
+alarms-at s m number = good s && obeys m && alarms (deliver m s) number
+
+-- Every test of a list passes.
+abbrev pub every : List Bool → Bool
+every [] = true
+every (t ∷ ts) = t && every ts
+
+-- The readings, each a test.
+unfoldable pub readings : List Bool
+readings =
+    -- "majority: of 07, 03 yes, 01 no"
+    majority 0x07 0x03
+    ∷ not (majority 0x07 0x01)
+    -- "of 0f, 03 no, 07 yes"
+    ∷ not (majority 0x0f 0x03)
+    ∷ majority 0x0f 0x07
+    -- "of 7f, 0f yes, 07 no"
+    ∷ majority 0x7f 0x0f
+    ∷ not (majority 0x7f 0x07)
+    -- "newer log (index, term): 3,2 against 5,1 yes; 4,2 against 5,2 no; 5,2 against 5,2 yes; 9,1 against 1,2 no"
+    ∷ as-new 3 2 5 1
+    ∷ not (as-new 4 2 5 2)
+    ∷ as-new 5 2 5 2
+    ∷ not (as-new 9 1 1 2)
+    -- "follower in term 4, its commit 1, log terms 1,1,2; append of term 4, previous index 1 and term 1, one entry of term 1, leader's
+    -- commit 0: log unchanged, answer 2"
+    ∷ joins-to (follows-at 1) (offer 1 0) (1 ∷ 1 ∷ 2 ∷ []) 1 2
+    -- "With the entry of term 3: log 1,3."
+    ∷ joins-to (follows-at 1) (offer 3 0) (1 ∷ 3 ∷ []) 1 2
+    -- "The same with its own commit 2: alarm 7."
+    ∷ alarms-at (follows-at 2) (offer 3 0) 7
+    -- "that first append with leader's commit 9: commit 2, though the log is 3 long"
+    ∷ joins-to (follows-at 1) (offer 1 9) (1 ∷ 1 ∷ 2 ∷ []) 2 2
+    -- "mask 1f, leader in term 4, log terms 1,2, commit 1, two others match 2: commit 1"
+    ∷ settles-at (leads (1 ∷ 2 ∷ []) 2) 1
+    -- "Log 1,2,4 and two others match 3: commit 3"
+    ∷ settles-at (leads (1 ∷ 2 ∷ 4 ∷ []) 3) 3
+    ∷ []
+
+-- each reading holds, by computation
+pub readings-hold : every readings ≡ true
+unfolding readings leads settles-at majority ones good is-membership is-vote is-role are-votes is-sent sends-to is-other holds in-order
+    settled highest is-matched matching matches term-at follows-at offer joins-to alarms-at deliver on-append taken join lacks agreed stop passes
+    cuts-committed joined joining
+readings-hold = refl

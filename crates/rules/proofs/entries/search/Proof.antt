@@ -1,0 +1,82 @@
+-- What was passed and what is passing yet make the whole search (`Passed`); it stops where nothing more passes.
+use borrow.Author.Needs.{needs}
+use native.Mathlib.Omega.{arith}
+use Prim.Native.Nat.{_+_, _-_, _≤_}
+use Rattle.rules.specs.SearchLaws.{Passed, passed-first, passed-next, stopped, passing-end, passing-past, passing-differs}
+use Rattle.rules.proofs.entries.search.Statement.{statement}
+use Rattle.rules.proofs.entries.search.Tie as tie
+
+abbrev Inv-loop : tie.InvT-loop
+Inv-loop terms last index count entries at₀ at = (index ≤ at) × (at ≤ index + count) × (at ≤ last) × Passed terms last index entries count at
+
+abbrev μ-loop : tie.MeasureT-loop
+μ-loop terms last index count entries at₀ at = last - at
+
+loop-holds : tie.Need-loop-holds Inv-loop μ-loop
+loop-holds c = (omega arith, omega arith, omega arith, passed-first _ _ _ _ _)
+
+add-if1 : tie.Need-add-if1 Inv-loop μ-loop
+add-if1 c = search needs
+
+mul-if3 : tie.Need-mul-if3 Inv-loop μ-loop
+mul-if3 c = search needs
+
+shared-slice-read-if3 : tie.Need-shared-slice-read-if3 Inv-loop μ-loop
+shared-slice-read-if3 c = search needs
+
+sub-if3 : tie.Need-sub-if3 Inv-loop μ-loop
+sub-if3 c = search needs
+
+mul-if3-2 : tie.Need-mul-if3-2 Inv-loop μ-loop
+mul-if3-2 c = search needs
+
+element-copy-out-if3 : tie.Need-element-copy-out-if3 Inv-loop μ-loop
+element-copy-out-if3 c = search needs
+
+add-at : tie.Need-add-at Inv-loop μ-loop
+add-at c = search needs
+
+loop-less : tie.Need-loop-less Inv-loop μ-loop
+loop-less c = search needs
+
+loop-again : tie.Need-loop-again Inv-loop μ-loop
+loop-again c =
+    let turn = c .before .before .before .before in
+    let entered = turn .before in
+    (omega arith, omega arith, omega arith, passed-next (entered .args .terms .now) (entered .args .last) (entered .args .index) (entered .args .t4) (entered .args .count) (turn .loop .at) (turn .loop .inv .0) (omega arith) (omega arith) (c .if3 .left) (turn .loop .inv .3))
+
+returns : tie.Need-returns Inv-loop μ-loop
+returns c =
+    let entered = c .before .before in
+    (λ orders. stopped (entered .args .terms .now) (entered .args .last) (entered .args .index) (entered .args .t4) (entered .args .count) orders (c .before .loop .at) (c .before .loop .inv .3) (passing-end _ _ _ _ _ _ (omega arith)), omega arith)
+
+returns-2 : tie.Need-returns-2 Inv-loop μ-loop
+returns-2 c =
+    let entered = c .before .before .before in
+    (λ orders. stopped (entered .args .terms .now) (entered .args .last) (entered .args .index) (entered .args .t4) (entered .args .count) orders (c .before .before .loop .at) (c .before .before .loop .inv .3) (passing-past _ _ _ _ _ _ (omega arith)), omega arith)
+
+returns-3 : tie.Need-returns-3 Inv-loop μ-loop
+returns-3 c =
+    let turn = c .before .before .before .before in
+    let entered = turn .before in
+    (λ orders. stopped (entered .args .terms .now) (entered .args .last) (entered .args .index) (entered .args .t4) (entered .args .count) orders (turn .loop .at) (turn .loop .inv .3) (passing-differs _ _ _ _ _ _ (omega arith) (omega arith) (c .if3 .taken)), omega arith)
+
+pub search-spec : {M : Type 1} → statement M
+search-spec =
+    tie.close
+    (tie.spec
+    Inv-loop
+    μ-loop
+    loop-holds
+    add-if1
+    mul-if3
+    shared-slice-read-if3
+    sub-if3
+    mul-if3-2
+    element-copy-out-if3
+    add-at
+    loop-less
+    loop-again
+    returns
+    returns-2
+    returns-3)

@@ -1,0 +1,2 @@
+-- What the rules' proofs use.
+pub mod SearchLaws

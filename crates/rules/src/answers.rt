@@ -1,0 +1,52 @@
+// "Append answer", and the commit that an append brings.
+ghost use mathlib.Core.Path.{_≡_};
+ghost use Prim.Native.Nat.{max, min, _≤_};
+ghost use Rattle.frames.specs.Limits.{log-limit};
+ghost use Rattle.raft.specs.Receive.{commit-after, match-after, next-heard};
+
+// "the larger of itself and the smaller of (leader's commit, previous index + count)"
+pub fn commit_after(own: u16, leaders: u16, end: u16) -> u16
+    ensures { λ r. ⌜ r ≡ commit-after own leaders end ⌝ }
+{
+    larger(own, smaller(leaders, end))
+}
+
+fn smaller(a: u16, b: u16) -> u16
+    ensures { λ r. ⌜ r ≡ min a b ⌝ }
+{
+    if a <= b {
+        return a;
+    }
+    b
+}
+
+fn larger(a: u16, b: u16) -> u16
+    ensures { λ r. ⌜ r ≡ max a b ⌝ }
+{
+    if a <= b {
+        return b;
+    }
+    a
+}
+
+// "Yes: match = the larger of match and the index named"
+pub fn match_after(reply: u8, index: u16, matched: u16) -> u16
+    ensures { λ r. ⌜ r ≡ match-after reply index matched ⌝ }
+{
+    if reply == 1 {
+        return larger(matched, index);
+    }
+    matched
+}
+
+// "next = the larger of next and match + 1. No: next = the larger of next - 1 and match + 1."
+pub fn next_heard(reply: u8, next: u16, matched: u16) -> u16
+    requires { ⌜ matched ≤ log-limit ⌝ }
+    requires { ⌜ 1 ≤ next ⌝ }
+    ensures { λ r. ⌜ r ≡ next-heard reply next matched ⌝ }
+{
+    if reply == 1 {
+        return larger(next, matched + 1);
+    }
+    larger(next - 1, matched + 1)
+}
