@@ -6,6 +6,10 @@ pub mod SizeLaws
 pub mod EventLaws
 pub mod RoleLaws
 pub mod Turns
+pub mod MessageLaws
+pub mod AnswerLaws
+pub mod AddLaws
+pub mod AppendLaws
 pub mod TurnLaws
 pub mod OutcomeLaws
 pub mod OrderLaws

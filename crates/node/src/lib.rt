@@ -1,4 +1,6 @@
 // A box: its record, and one method for each event. The log is lent by the caller, as terms and orders, entry i at place i-1.
+mod answers;
+mod appends;
 mod calls;
 mod commit;
 mod events;
@@ -8,6 +10,7 @@ mod record;
 mod roles;
 mod sends;
 mod turns;
+mod votes;
 
 ghost use mathlib.Core.Path.{_≡_};
 ghost use Rattle.raft.specs.Record.{fresh};

@@ -154,7 +154,7 @@ fn slot_at(terms: &[u32], orders: &[u64], at: usize, last: usize) -> Entry
 }
 
 // The four places for what an append carries.
-fn slots(terms: &[u32], orders: &[u64], at: usize, last: usize) -> [Entry; Fields::ENTRIES]
+pub fn slots(terms: &[u32], orders: &[u64], at: usize, last: usize) -> [Entry; Fields::ENTRIES]
     requires { ⌜ at ≤ last ⌝ }
     requires { ⌜ last ≤ length (now terms) ⌝ }
     requires { ⌜ last ≤ length (now orders) ⌝ }

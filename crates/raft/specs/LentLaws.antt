@@ -3,9 +3,11 @@ use Prim.Native.Nat.{ℕ, zero, suc, _+_, _-_, _≤_, _<_, min}
 use native.Mathlib.Nat.{add-zero, zero-add, sub-zero, zero-sub, suc-sub-suc, add-suc, suc-add, zero-min, min-zero, suc-min-suc}
 use native.Mathlib.Omega.{arith}
 use mathlib.Core.Path.{_≡_, refl, sym, ap, _∙_}
-use mathlib.Core.List.{List, [], _∷_, _++_}
-use lib.ListN.{length, getD, take, drop}
-use lib.Seq.{drop-cons}
+use mathlib.Core.List.{List, [], _∷_, _++_, map, map-append}
+use lib.ListN.{length, getD, take, drop, length-append, length-map}
+use lib.Seq.{drop-cons, take-at, length-take-le}
+use Rattle.digits.specs.Room.{over}
+use Rattle.digits.specs.RoomLaws.{length-over}
 use Rattle.frames.specs.declared.Entry.{Entry}
 use Rattle.frames.specs.Fields.{no-entry}
 use Rattle.raft.specs.Record.{term-at}
@@ -80,3 +82,77 @@ pub orders-more : (log : List Entry) (e : Entry) → orders-of (log ++ (e ∷ []
 unfolding orders-of
 orders-more [] e = refl
 orders-more (x ∷ log) e = rw (orders-more log e)
+
+-- ---- entries stored behind a place
+
+-- as many terms as entries
+pub terms-long : (es : List Entry) → length (terms-of es) ≡ length es
+unfolding terms-of
+terms-long es = length-map es _
+
+-- and as many orders
+pub orders-long : (es : List Entry) → length (orders-of es) ≡ length es
+unfolding orders-of
+orders-long es = length-map es _
+
+-- a log is its terms and its orders
+same-log : (a b : List Entry) → terms-of a ≡ terms-of b → orders-of a ≡ orders-of b → a ≡ b
+unfolding terms-of orders-of
+same-log [] [] p q = refl
+same-log [] (y ∷ b) p q = let never : _≡_ {A = ℕ} 0 (suc (length b)) = ap length p ∙ ap suc (length-map b _) in absurd (omega arith)
+same-log (x ∷ a) [] p q = let never : _≡_ {A = ℕ} (suc (length a)) 0 = sym (ap suc (length-map a _)) ∙ ap length p in absurd (omega arith)
+same-log (x ∷ a) (y ∷ b) p q =
+    let t : x .term ≡ y .term = cc in
+    let o : x .order ≡ y .order = cc in
+    let terms : terms-of a ≡ terms-of b = cc in
+    let orders : orders-of a ≡ orders-of b = cc in
+    let rest = same-log a b terms orders in
+    rw (rest, t, o)
+
+-- what stands before a text that was written, and the text
+over-front : (d s : List ℕ) (at : ℕ) → at ≤ length d → take (at + length s) (over d at s) ≡ take at d ++ s
+unfolding over
+over-front d s at h = take-at (take at d ++ s) (drop (at + length s) d) (at + length s) (simp (length-append, length-take-le at d h))
+
+-- written from the start
+over-whole : (d s : List ℕ) (at : ℕ) → at ≤ length d → over d at s ≡ over d 0 (take at d ++ s)
+unfolding over
+over-whole d s at h = rw (length-append, length-take-le at d h, zero-add)
+
+module _ (terms orders : List ℕ) (last at : ℕ) (es : List Entry) (h : at ≤ last) (p : last ≤ length terms) (q : last ≤ length orders) where
+  -- the log with these entries behind a place
+  abbrev log : List Entry
+  log = take at (entries-of terms orders 0 last) ++ es
+
+  front : take at (entries-of terms orders 0 last) ≡ entries-of terms orders 0 at
+  front = take-entries terms orders 0 last at ∙ ap (entries-of terms orders 0) (omega arith)
+
+  log-terms : terms-of log ≡ take at terms ++ terms-of es
+  unfolding terms-of
+  log-terms = rw (front, map-append) (ap (λ (l : List ℕ). l ++ map (λ e. e .term) es) (terms-are terms orders 0 at (omega arith)))
+
+  log-orders : orders-of log ≡ take at orders ++ orders-of es
+  unfolding orders-of
+  log-orders = rw (front, map-append) (ap (λ (l : List ℕ). l ++ map (λ e. e .order) es) (orders-are terms orders 0 at (omega arith)))
+
+  -- is what the lent log holds once their terms and orders are written there
+  pub stored-terms : over terms at (terms-of es) ≡ over terms 0 (terms-of log)
+  stored-terms = over-whole terms (terms-of es) at (omega arith) ∙ ap (over terms 0) (sym log-terms)
+
+  pub stored-orders : over orders at (orders-of es) ≡ over orders 0 (orders-of log)
+  stored-orders = over-whole orders (orders-of es) at (omega arith) ∙ ap (over orders 0) (sym log-orders)
+
+  pub stored-log : at + length es ≤ length terms → at + length es ≤ length orders
+      → entries-of (over terms at (terms-of es)) (over orders at (orders-of es)) 0 (at + length es) ≡ log
+  stored-log a b =
+      same-log _ _
+      (terms-are (over terms at (terms-of es)) (over orders at (orders-of es)) 0 (at + length es) (omega (arith, length-over terms at (terms-of es) (omega (arith, count-terms)), count-terms))
+      ∙ rw (← count-terms) (over-front terms (terms-of es) at (omega arith)) ∙ sym log-terms)
+      (orders-are (over terms at (terms-of es)) (over orders at (orders-of es)) 0 (at + length es) (omega (arith, length-over orders at (orders-of es) (omega (arith, count-orders)), count-orders))
+      ∙ rw (← count-orders) (over-front orders (orders-of es) at (omega arith)) ∙ sym log-orders)
+    where
+      count-terms : length (terms-of es) ≡ length es
+      count-terms = terms-long es
+
+      count-orders : length (orders-of es) ≡ length es
+      count-orders = orders-long es

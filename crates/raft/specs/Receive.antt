@@ -184,13 +184,16 @@ say-no t to = done t (append-answer-to t to 0 false ∷ [])
 abbrev pub say-yes : State → (to index : ℕ) → Outcome
 say-yes t to index = done t (append-answer-to t to index true ∷ [])
 
+abbrev pub accept : State → (from index commit : ℕ) → List Entry → Outcome
+accept s from index commit es =
+    cond (cuts-committed s index es) (refuse 7) (say-yes (joining s index commit es) from (index + length es))
+
 -- In a term that is no lower. Refusal 6: "append of the box's own term, and it leads".
 unfoldable pub join : State → (from index prior commit : ℕ) → List Entry → Outcome
 join s from index prior commit es =
     cond (eqb (s .role) leader) (refuse 6)
     (cond (lacks (s .log) index prior) (say-no (following s) from)
-    (cond (cuts-committed s index es) (refuse 7)
-    (say-yes (joining s index commit es) from (index + length es))))
+    (accept s from index commit es))
 
 -- "A lower term: a request gets a no with the box's own term"
 unfoldable pub on-append : State → (from term index prior commit : ℕ) → List Entry → Outcome
