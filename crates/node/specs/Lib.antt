@@ -10,6 +10,7 @@ pub mod MessageLaws
 pub mod AnswerLaws
 pub mod AddLaws
 pub mod AppendLaws
+pub mod ReceiveCalls
 pub mod TurnLaws
 pub mod OutcomeLaws
 pub mod OrderLaws

@@ -6,12 +6,14 @@ use crate::events::refused;
 use crate::events::run_order;
 use crate::events::run_prompt;
 use crate::events::run_timeout;
+use crate::receive::run_receive;
 use crate::record::is_good;
 ghost use mathlib.Core.Path.{_≡_};
 ghost use Rattle.frames.specs.Limits.{log-limit};
 ghost use lib.ListN.{length};
 ghost use Rattle.raft.specs.Step.{timeout, prompt};
 ghost use Rattle.raft.specs.Step.{order as ordering};
+ghost use Rattle.raft.specs.Receive.{receive as receiving};
 ghost use Rattle.node.specs.Calls.{Called, call, handed};
 
 pub fn timeout(n: Node, terms: &[u32], orders: &[u64], journal: &mut [u8], room: &mut [u8]) -> Step
@@ -52,6 +54,29 @@ pub fn prompt(n: Node, terms: &[u32], orders: &[u64], journal: &mut [u8], room: 
         return refused(n, 12);
     }
     run_prompt(n, terms, orders, journal, room)
+}
+
+pub fn receive(
+    n: Node,
+    bytes: &[u8],
+    terms: &mut [u32],
+    orders: &mut [u64],
+    journal: &mut [u8],
+    room: &mut [u8],
+) -> Step
+    requires { ⌜ length (now terms) ≡ log-limit ⌝ }
+    requires { ⌜ length (now orders) ≡ log-limit ⌝ }
+    ensures { λ r. ⌜ _≡_ {A = Called} (record { answer = r; terms = now (terms .exit); orders = now (orders .exit); journal = now (journal .exit); room = now (room .exit) }) (call (receiving (now (bytes .entry))) n (now (terms .entry)) (now (orders .entry)) (now (journal .entry)) (now (room .entry))) ⌝ }
+{
+    if !is_good(n, &terms[..]) {
+        return refused(n, 12);
+    }
+    let parsed = frames::read(bytes);
+    if parsed.refusal == 1 {
+        return refused(n, 1);
+    }
+    let fields = parsed.fields;
+    run_receive(n, fields, terms, orders, journal, room)
 }
 
 pub fn handed_out(n: Node, terms: &[u32], orders: &[u64]) -> Handed

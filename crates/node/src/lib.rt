@@ -6,6 +6,7 @@ mod commit;
 mod events;
 mod journal;
 mod mask;
+mod receive;
 mod record;
 mod roles;
 mod sends;
@@ -16,6 +17,7 @@ ghost use mathlib.Core.Path.{_≡_};
 ghost use Rattle.raft.specs.Record.{fresh};
 ghost use Rattle.raft.specs.Step.{timeout, prompt};
 ghost use Rattle.raft.specs.Step.{order as ordering};
+ghost use Rattle.raft.specs.Receive.{receive as receiving};
 ghost use Rattle.node.specs.Calls.{node-of, Called, call, Begun, begun, handed};
 
 // What a box holds but its log. Box i's next and match stand at place i-1; role is 0 follower, 1 candidate, 2 leader.
@@ -123,6 +125,20 @@ impl Node {
         ensures { λ r. ⌜ _≡_ {A = Called} (record { answer = r; terms = now (terms .entry); orders = now (orders .entry); journal = now (journal .exit); room = now (room .exit) }) (call prompt self (now (terms .entry)) (now (orders .entry)) (now (journal .entry)) (now (room .entry))) ⌝ }
     {
         calls::prompt(self, terms, orders, journal, room)
+    }
+
+    // A frame's bytes, or any others: 1 where they are not one frame, 2 where it is not for this box, and then 01's rules for its kind.
+    pub fn receive(
+        self,
+        bytes: &[u8],
+        terms: &mut [u32; Node::LOG],
+        orders: &mut [u64; Node::LOG],
+        journal: &mut [u8],
+        room: &mut [u8],
+    ) -> Step
+        ensures { λ r. ⌜ _≡_ {A = Called} (record { answer = r; terms = now (terms .exit); orders = now (orders .exit); journal = now (journal .exit); room = now (room .exit) }) (call (receiving (now (bytes .entry))) self (now (terms .entry)) (now (orders .entry)) (now (journal .entry)) (now (room .entry))) ⌝ }
+    {
+        calls::receive(self, bytes, terms, orders, journal, room)
     }
 
     // "Handed out: entries 1 to commit": how many of the lent log's entries.
