@@ -2,7 +2,6 @@
 //! same records, in turn. One line each: NAME OURS TWIN RATIO.
 
 use std::hint::black_box;
-use std::slice::from_raw_parts_mut;
 use std::time::{Duration, Instant};
 
 #[allow(dead_code)] // only the flat functions are measured
@@ -13,107 +12,20 @@ mod node;
 #[path = "../tests/library.rs"]
 mod library;
 
-use library::{box_order, box_prompt, box_timeout};
+#[allow(dead_code)] // not every call is measured
+#[path = "../tests/sides.rs"]
+mod sides;
+
+use library::{LAST, MATCH, ME, NEXT, TERM};
 use node::{Node, Numbers, Orders, Terms, FOLLOWER, LEADER};
+use sides::{Side, OURS, TWIN};
 
-/// Both sides are called through pointers of one type, so neither is inlined.
-/// A timeout or a prompt.
-type Event = unsafe extern "C" fn(
-    numbers: *mut u64,
-    terms: *const u32,
-    orders: *const u64,
-    journal: *mut u8,
-    journal_len: usize,
-    room: *mut u8,
-    room_len: usize,
-    sizes: *mut u64,
-) -> u8;
-type Order = unsafe extern "C" fn(
-    order: u64,
-    numbers: *mut u64,
-    terms: *mut u32,
-    orders: *mut u64,
-    journal: *mut u8,
-    journal_len: usize,
-    room: *mut u8,
-    room_len: usize,
-    sizes: *mut u64,
-) -> u8;
-
-unsafe extern "C" fn twin_timeout(
-    numbers: *mut u64,
-    terms: *const u32,
-    orders: *const u64,
-    journal: *mut u8,
-    journal_len: usize,
-    room: *mut u8,
-    room_len: usize,
-    sizes: *mut u64,
-) -> u8 {
-    unsafe {
-        node::flat_timeout(
-            &mut *numbers.cast(),
-            &*terms.cast(),
-            &*orders.cast(),
-            from_raw_parts_mut(journal, journal_len),
-            from_raw_parts_mut(room, room_len),
-            &mut *sizes.cast(),
-        )
-    }
-}
-
-unsafe extern "C" fn twin_prompt(
-    numbers: *mut u64,
-    terms: *const u32,
-    orders: *const u64,
-    journal: *mut u8,
-    journal_len: usize,
-    room: *mut u8,
-    room_len: usize,
-    sizes: *mut u64,
-) -> u8 {
-    unsafe {
-        node::flat_prompt(
-            &mut *numbers.cast(),
-            &*terms.cast(),
-            &*orders.cast(),
-            from_raw_parts_mut(journal, journal_len),
-            from_raw_parts_mut(room, room_len),
-            &mut *sizes.cast(),
-        )
-    }
-}
-
-unsafe extern "C" fn twin_order(
-    order: u64,
-    numbers: *mut u64,
-    terms: *mut u32,
-    orders: *mut u64,
-    journal: *mut u8,
-    journal_len: usize,
-    room: *mut u8,
-    room_len: usize,
-    sizes: *mut u64,
-) -> u8 {
-    unsafe {
-        node::flat_order(
-            order,
-            &mut *numbers.cast(),
-            &mut *terms.cast(),
-            &mut *orders.cast(),
-            from_raw_parts_mut(journal, journal_len),
-            from_raw_parts_mut(room, room_len),
-            &mut *sizes.cast(),
-        )
-    }
-}
-
-const JOURNAL: usize = 64;
+const JOURNAL: usize = 128;
 const ROOM: usize = 400;
 
 /// A record, and the memory a step is given. A step starts from the record's
-/// numbers each time; what an order adds to the log lies past it and is the
-/// same each time.
+/// numbers each time; what it adds to the log lies past it and is the same each
+/// time.
 #[derive(Clone, PartialEq)]
 struct Input {
     record: Numbers,
@@ -121,10 +33,13 @@ struct Input {
     terms: Terms,
     orders: Orders,
     order: u64,
+    text: Vec<u8>,
     journal: [u8; JOURNAL],
     room: [u8; ROOM],
     sizes: [u64; 2],
 }
+
+type Step = fn(&Side, &mut Input) -> u8;
 
 /// Several values of one shape, so that no branch learns a single one.
 const INPUTS: u64 = 16;
@@ -173,95 +88,158 @@ fn input(n: u64, role: u8) -> Input {
         terms,
         orders,
         order: spread(n),
+        text: Vec::new(),
         journal: [0; JOURNAL],
         room: [0; ROOM],
         sizes: [0; 2],
     }
 }
 
-fn event(event: Event, input: &mut Input) -> u8 {
-    input.numbers = input.record;
-    unsafe {
-        event(
-            input.numbers.as_mut_ptr(),
-            input.terms.as_ptr(),
-            input.orders.as_ptr(),
-            input.journal.as_mut_ptr(),
-            input.journal.len(),
-            input.room.as_mut_ptr(),
-            input.room.len(),
-            input.sizes.as_mut_ptr(),
-        )
+impl Input {
+    /// The box that the frame comes from.
+    fn from(&self) -> u64 {
+        self.record[ME] % 7 + 1
+    }
+
+    fn last(&self) -> (u64, u32) {
+        let last = self.record[LAST];
+        (last, self.terms[last as usize - 1])
+    }
+
+    /// With a frame of this kind and term to the box; `rest` are the digits past
+    /// the term.
+    fn frame(mut self, kind: u8, term: u64, rest: String) -> Input {
+        let (from, me) = (self.from(), self.record[ME]);
+        let text = format!("01{kind:02x}{from:02x}{me:02x}{term:08x}{rest}\n");
+        self.text = text.into_bytes();
+        self
+    }
+
+    /// An append of so many entries to the log's end.
+    fn append(self, count: u64) -> Input {
+        let ((last, last_term), term) = (self.last(), self.record[TERM]);
+        let fixed = format!("{last:04x}{last_term:08x}{:04x}{count:02x}", last - 1);
+        let entries = (0..count).map(|entry| format!("{term:08x}{:016x}", spread(entry)));
+        let rest = fixed + &entries.collect::<String>();
+        self.frame(3, term, rest)
+    }
+
+    /// The box that says yes has all.
+    fn append_yes(self) -> Input {
+        let (term, (last, _)) = (self.record[TERM], self.last());
+        self.frame(4, term, format!("01{last:04x}"))
+    }
+
+    /// The box that says no is far behind.
+    fn append_no(mut self) -> Input {
+        let place = self.from() as usize - 1;
+        self.record[NEXT + place] = 50;
+        self.record[MATCH + place] = 0;
+        let term = self.record[TERM];
+        self.frame(4, term, "000000".into())
+    }
+
+    /// From a box with the same log that stands in the next term.
+    fn vote_request(self) -> Input {
+        let (term, (last, last_term)) = (self.record[TERM] + 1, self.last());
+        self.frame(1, term, format!("{last:04x}{last_term:08x}"))
     }
 }
 
-fn order(order: Order, input: &mut Input) -> u8 {
+fn timeout(side: &Side, input: &mut Input) -> u8 {
     input.numbers = input.record;
-    unsafe {
-        order(
-            input.order,
-            input.numbers.as_mut_ptr(),
-            input.terms.as_mut_ptr(),
-            input.orders.as_mut_ptr(),
-            input.journal.as_mut_ptr(),
-            input.journal.len(),
-            input.room.as_mut_ptr(),
-            input.room.len(),
-            input.sizes.as_mut_ptr(),
-        )
-    }
+    (side.timeout)(
+        &mut input.numbers,
+        &input.terms,
+        &input.orders,
+        &mut input.journal,
+        &mut input.room,
+        &mut input.sizes,
+    )
+}
+
+fn prompt(side: &Side, input: &mut Input) -> u8 {
+    input.numbers = input.record;
+    (side.prompt)(
+        &mut input.numbers,
+        &input.terms,
+        &input.orders,
+        &mut input.journal,
+        &mut input.room,
+        &mut input.sizes,
+    )
+}
+
+fn order(side: &Side, input: &mut Input) -> u8 {
+    input.numbers = input.record;
+    (side.order)(
+        input.order,
+        &mut input.numbers,
+        &mut input.terms,
+        &mut input.orders,
+        &mut input.journal,
+        &mut input.room,
+        &mut input.sizes,
+    )
+}
+
+fn receive(side: &Side, input: &mut Input) -> u8 {
+    input.numbers = input.record;
+    (side.receive)(
+        &input.text,
+        &mut input.numbers,
+        &mut input.terms,
+        &mut input.orders,
+        &mut input.journal,
+        &mut input.room,
+        &mut input.sizes,
+    )
 }
 
 /// A measured side that does nothing, or something else, would win for nothing.
-fn check(
-    inputs: &[Input],
-    sizes: [u64; 2],
-    ours: &dyn Fn(&mut Input) -> u8,
-    twin: &dyn Fn(&mut Input) -> u8,
-) {
+fn check([ours, twin]: &[Side; 2], inputs: &[Input], sizes: [u64; 2], step: Step) {
     for input in inputs {
         let mut by_us = input.clone();
         let mut by_twin = input.clone();
-        assert_eq!((ours(&mut by_us), twin(&mut by_twin)), (0, 0));
+        assert_eq!((step(ours, &mut by_us), step(twin, &mut by_twin)), (0, 0));
         assert!(by_us == by_twin && by_us.sizes == sizes);
     }
 }
 
 /// Steps from all records, `passes` times.
-fn run(inputs: &mut [Input], passes: u32, step: &dyn Fn(&mut Input) -> u8) -> Duration {
+fn run(inputs: &mut [Input], passes: u32, step: Step, side: &Side) -> Duration {
     let start = Instant::now();
     for _ in 0..passes {
         for input in &mut *inputs {
-            black_box(step(black_box(input)));
+            black_box(step(side, black_box(input)));
         }
     }
     start.elapsed()
 }
 
 /// Passes that fill a round; the doubling warms up as well.
-fn passes_for(inputs: &mut [Input], step: &dyn Fn(&mut Input) -> u8) -> u32 {
+fn passes_for(inputs: &mut [Input], step: Step, side: &Side) -> u32 {
     let mut passes = 1;
-    while run(inputs, passes, step) < ROUND / 2 {
+    while run(inputs, passes, step, side) < ROUND / 2 {
         passes *= 2;
     }
     passes
 }
 
-/// Medians of rounds in which the two take turns.
-fn measure(
-    name: &str,
-    mut inputs: Vec<Input>,
-    sizes: [u64; 2],
-    ours: &dyn Fn(&mut Input) -> u8,
-    twin: &dyn Fn(&mut Input) -> u8,
-) {
-    check(&inputs, sizes, ours, twin);
-    let sides = [ours, twin].map(|step| (step, passes_for(&mut inputs, step)));
+/// Medians of rounds in which the two take turns. Both are called through
+/// pointers of one type that the compiler knows nothing of, so neither is
+/// inlined.
+fn measure(name: &str, mut inputs: Vec<Input>, sizes: [u64; 2], step: Step) {
+    let sides = black_box([OURS, TWIN]);
+    check(&sides, &inputs, sizes, step);
+    let passes = sides
+        .each_ref()
+        .map(|side| passes_for(&mut inputs, step, side));
     let mut readings = [Vec::new(), Vec::new()];
     for _ in 0..ROUNDS {
-        for ((step, passes), readings) in sides.iter().zip(&mut readings) {
-            let nanos = run(&mut inputs, *passes, step).as_nanos() as f64;
-            readings.push(nanos / f64::from(*passes) / INPUTS as f64);
+        for ((side, passes), readings) in sides.iter().zip(passes).zip(&mut readings) {
+            let nanos = run(&mut inputs, passes, step, side).as_nanos() as f64;
+            readings.push(nanos / f64::from(passes) / INPUTS as f64);
         }
     }
     let [ours, twin] = readings.map(|mut readings| {
@@ -272,31 +250,29 @@ fn measure(
 }
 
 fn main() {
-    let inputs = |role| (0..INPUTS).map(|n| input(n, role)).collect::<Vec<Input>>();
-    let [our_timeout, twin_timeout, our_prompt, twin_prompt] =
-        black_box([box_timeout as Event, twin_timeout, box_prompt, twin_prompt]);
-    let [our_order, twin_order] = black_box([box_order as Order, twin_order]);
+    let inputs = |role, with: fn(Input) -> Input| {
+        let inputs = (0..INPUTS).map(|n| with(input(n, role)));
+        inputs.collect::<Vec<Input>>()
+    };
+    let leaders = inputs(LEADER, |input| input);
+    let followers = inputs(FOLLOWER, |input| input);
 
     // Bytes of the line and of the messages to six boxes.
-    measure(
-        "order_seven",
-        inputs(LEADER),
-        [47, 6 * 59],
-        &|input| order(our_order, input),
-        &|input| order(twin_order, input),
-    );
-    measure(
-        "timeout_seven",
-        inputs(FOLLOWER),
-        [23, 6 * 29],
-        &|input| event(our_timeout, input),
-        &|input| event(twin_timeout, input),
-    );
-    measure(
-        "prompt_seven",
-        inputs(LEADER),
-        [0, 6 * 35],
-        &|input| event(our_prompt, input),
-        &|input| event(twin_prompt, input),
-    );
+    measure("order_seven", leaders.clone(), [47, 6 * 59], order);
+    measure("timeout_seven", followers, [23, 6 * 29], timeout);
+    measure("prompt_seven", leaders, [0, 6 * 35], prompt);
+
+    // And of one answer, or of the append of four that follows a no.
+    let append0 = inputs(FOLLOWER, |input| input.append(0));
+    let append1 = inputs(FOLLOWER, |input| input.append(1));
+    let append4 = inputs(FOLLOWER, |input| input.append(4));
+    let yes = inputs(LEADER, Input::append_yes);
+    let no = inputs(LEADER, Input::append_no);
+    let vote_request = inputs(FOLLOWER, Input::vote_request);
+    measure("receive_append0", append0, [0, 23], receive);
+    measure("receive_append1", append1, [47, 23], receive);
+    measure("receive_append4", append4, [119, 23], receive);
+    measure("receive_append_yes_seven", yes, [0, 0], receive);
+    measure("receive_append_no_seven", no, [0, 131], receive);
+    measure("receive_vote_request", vote_request, [23, 19], receive);
 }

@@ -1,20 +1,22 @@
-//! 01's 'Readings from the bench' of a box that hears no message, run on the
-//! proved library. What is expected is 01's text, byte by byte.
+//! 01's 'Readings from the bench' of a box, run on the proved library. Where 01
+//! gives bytes, these are expected; else what its words and its table make.
 
 #[allow(dead_code)] // the other functions have readings elsewhere
 #[path = "library.rs"]
 mod library;
 
-use library::{box_order, box_start, box_timeout};
+use library::{Numbers, Orders, Sizes, Terms};
+use library::{CANDIDATE, COMMIT, FOLLOWER, LAST, LEADER, ME, MEMBERS, NEXT, ROLE, TERM, VOTE};
 
 /// A box as the library's callers hold it, and what is lent to it.
+#[derive(Clone, PartialEq)]
 struct Bench {
-    numbers: [u64; 22],
-    terms: [u32; 256],
-    orders: [u64; 256],
+    numbers: Numbers,
+    terms: Terms,
+    orders: Orders,
     journal: [u8; 119],
     room: [u8; 786],
-    sizes: [u64; 2],
+    sizes: Sizes,
 }
 
 const BENCH: Bench = Bench {
@@ -27,41 +29,88 @@ const BENCH: Bench = Bench {
 };
 
 impl Bench {
+    /// Box 1 in a term, with a log of these terms.
+    fn with_log(mask: u64, term: u64, terms: &[u32]) -> Bench {
+        let mut bench = BENCH;
+        bench.numbers[ME] = 1;
+        bench.numbers[MEMBERS] = mask;
+        bench.numbers[TERM] = term;
+        bench.numbers[LAST] = terms.len() as u64;
+        bench.terms[..terms.len()].copy_from_slice(terms);
+        bench
+    }
+
     fn start(&mut self, me: u8, mask: u8) -> u64 {
-        let (room, len) = (self.room.as_mut_ptr(), self.room.len());
-        unsafe { box_start(me, mask, self.numbers.as_mut_ptr(), room, len) }
+        library::start(me, mask, &mut self.numbers, &mut self.room)
     }
 
     fn timeout(&mut self) -> u8 {
-        unsafe {
-            box_timeout(
-                self.numbers.as_mut_ptr(),
-                self.terms.as_ptr(),
-                self.orders.as_ptr(),
-                self.journal.as_mut_ptr(),
-                self.journal.len(),
-                self.room.as_mut_ptr(),
-                self.room.len(),
-                self.sizes.as_mut_ptr(),
-            )
-        }
+        library::timeout(
+            &mut self.numbers,
+            &self.terms,
+            &self.orders,
+            &mut self.journal,
+            &mut self.room,
+            &mut self.sizes,
+        )
     }
 
     fn order(&mut self, order: u64) -> u8 {
-        unsafe {
-            box_order(
-                order,
-                self.numbers.as_mut_ptr(),
-                self.terms.as_mut_ptr(),
-                self.orders.as_mut_ptr(),
-                self.journal.as_mut_ptr(),
-                self.journal.len(),
-                self.room.as_mut_ptr(),
-                self.room.len(),
-                self.sizes.as_mut_ptr(),
-            )
-        }
+        library::order(
+            order,
+            &mut self.numbers,
+            &mut self.terms,
+            &mut self.orders,
+            &mut self.journal,
+            &mut self.room,
+            &mut self.sizes,
+        )
     }
+
+    /// The blanks between fields are for the reader of these checks only; the
+    /// line feed is added.
+    fn receive(&mut self, frame: &str) -> u8 {
+        library::receive(
+            lines(&[frame]).as_bytes(),
+            &mut self.numbers,
+            &mut self.terms,
+            &mut self.orders,
+            &mut self.journal,
+            &mut self.room,
+            &mut self.sizes,
+        )
+    }
+
+    fn handed_out(&self) -> (u8, u64) {
+        let mut count = 0;
+        let answer = library::handed_out(&self.numbers, &self.terms, &self.orders, &mut count);
+        (answer, count)
+    }
+
+    /// What the last step wrote.
+    fn written(&self) -> (String, String) {
+        let text = |room: &[u8], size: u64| String::from_utf8_lossy(&room[..size as usize]).into();
+        (
+            text(&self.journal, self.sizes[0]),
+            text(&self.room, self.sizes[1]),
+        )
+    }
+
+    fn log(&self) -> &[u32] {
+        &self.terms[..self.numbers[LAST] as usize]
+    }
+}
+
+fn lines(lines: &[&str]) -> String {
+    lines
+        .iter()
+        .map(|line| line.replace(' ', "") + "\n")
+        .collect()
+}
+
+/// A journal line or none, and the messages.
+fn writes(line: &[&str], messages: &[&str]) -> (String, String) {
+    (lines(line), lines(messages))
 }
 
 #[test]
@@ -76,6 +125,158 @@ fn box_1_of_07_and_a_timeout() {
         &bench.room[..58],
         b"0101010200000001000000000000\n0101010300000001000000000000\n"
     );
+}
+
+/// Box 1 of 07 after the timeout and box 2's yes.
+fn elected() -> Bench {
+    let mut bench = BENCH;
+    bench.start(1, 0x07);
+    assert_eq!(bench.timeout(), 0);
+    assert_eq!(bench.receive("010202010000000101"), 0);
+    bench
+}
+
+#[test]
+fn box_2_says_yes() {
+    let bench = elected();
+    assert_eq!(bench.numbers[ROLE], LEADER);
+    let appends = [
+        "01 03 01 02 00000001 0000 00000000 0000 00",
+        "01 03 01 03 00000001 0000 00000000 0000 00",
+    ];
+    assert_eq!(bench.written(), writes(&[], &appends));
+}
+
+#[test]
+fn yes_from_2_to_index_1() {
+    let mut bench = elected();
+    assert_eq!(bench.order(0xfedcba9876543210), 0);
+    let appends = [
+        "01 03 01 02 00000001 0000 00000000 0000 01 00000001 fedcba9876543210",
+        "01 03 01 03 00000001 0000 00000000 0000 01 00000001 fedcba9876543210",
+    ];
+    let line = "01 10 01 00000001 01 0000 01 00000001 fedcba9876543210";
+    assert_eq!(bench.written(), writes(&[line], &appends));
+    assert_eq!(bench.handed_out(), (0, 0));
+
+    assert_eq!(bench.receive("0104020100000001010001"), 0);
+    assert_eq!(bench.written(), writes(&[], &[]));
+    assert_eq!(bench.handed_out(), (0, 1));
+}
+
+#[test]
+fn a_frame_with_a_digit_in_upper_case_is_1() {
+    let mut bench = elected();
+    let before = bench.clone();
+    assert_eq!(bench.receive("01 02 02 01 0000000A 01"), 1);
+    assert!(bench == before);
+    assert_eq!(bench.receive("01 02 02 01 0000000a 01"), 0);
+    assert_eq!(bench.numbers[TERM], 10);
+}
+
+/// Yes comes from box 2 on, one after the other, until the box leads.
+#[test]
+fn majorities() {
+    for (mask, votes) in [(0x07, 0x03), (0x0f, 0x07), (0x7f, 0x0f_u8)] {
+        let mut bench = BENCH;
+        bench.start(1, mask);
+        assert_eq!(bench.timeout(), 0);
+        for from in 2..=votes.count_ones() {
+            assert_eq!(bench.numbers[ROLE], CANDIDATE);
+            assert_eq!(bench.receive(&format!("01 02 0{from} 01 00000001 01")), 0);
+        }
+        assert_eq!(bench.numbers[ROLE], LEADER);
+    }
+}
+
+#[test]
+fn newer_logs() {
+    for (asker, own, yes) in [
+        ("0003 00000002", (5, 1), 1),
+        ("0004 00000002", (5, 2), 0),
+        ("0005 00000002", (5, 2), 1),
+        ("0009 00000001", (1, 2), 0),
+    ] {
+        let (last, last_term) = own;
+        let mut bench = Bench::with_log(0x07, 4, &vec![last_term; last]);
+        assert_eq!(bench.receive(&format!("01 01 02 01 00000004 {asker}")), 0);
+        // A yes sets vote, which is stored.
+        let line = format!("01 10 01 00000004 02 000{last} 00");
+        let answer = format!("01 02 01 02 00000004 0{yes}");
+        assert_eq!(bench.written(), writes(&[&*line][..yes], &[&answer]));
+    }
+}
+
+/// The follower in term 4 with log terms 1, 1, 2, and the append from index 1
+/// with one entry.
+fn follower(commit: u64) -> Bench {
+    let mut bench = Bench::with_log(0x07, 4, &[1, 1, 2]);
+    bench.numbers[COMMIT] = commit;
+    bench
+}
+
+fn append(entry_term: u8, commit: u8) -> String {
+    format!(
+        "01 03 02 01 00000004 0001 00000001 000{commit} 01 0000000{entry_term} 0123456789abcdef"
+    )
+}
+
+const YES_TO_2: &str = "01 04 01 02 00000004 01 0002";
+
+#[test]
+fn an_append_that_is_there_already() {
+    let mut bench = follower(1);
+    assert_eq!(bench.receive(&append(1, 0)), 0);
+    assert_eq!(bench.log(), [1, 1, 2]);
+    assert_eq!(bench.orders, BENCH.orders);
+    assert_eq!(bench.written(), writes(&[], &[YES_TO_2]));
+    assert_eq!(bench.handed_out(), (0, 1));
+}
+
+#[test]
+fn an_append_that_cuts() {
+    let mut bench = follower(1);
+    assert_eq!(bench.receive(&append(3, 0)), 0);
+    assert_eq!(bench.log(), [1, 3]);
+    assert_eq!(bench.orders[1], 0x0123456789abcdef);
+    let line = "01 10 01 00000004 00 0001 01 00000003 0123456789abcdef";
+    assert_eq!(bench.written(), writes(&[line], &[YES_TO_2]));
+}
+
+#[test]
+fn an_append_that_would_cut_at_commit_is_7() {
+    let mut bench = follower(2);
+    let before = bench.clone();
+    assert_eq!(bench.receive(&append(3, 0)), 7);
+    assert!(bench == before);
+}
+
+#[test]
+fn commit_stops_where_the_append_ends() {
+    let mut bench = follower(1);
+    assert_eq!(bench.receive(&append(1, 9)), 0);
+    assert_eq!(bench.handed_out(), (0, 2));
+    assert_eq!(bench.log(), [1, 1, 2]);
+    assert_eq!(bench.numbers[ROLE], FOLLOWER);
+}
+
+#[test]
+fn a_leader_commits_by_its_own_term_only() {
+    for (terms, commit) in [(&[1, 2][..], 1), (&[1, 2, 4], 3)] {
+        let last = terms.len() as u64;
+        let mut bench = Bench::with_log(0x1f, 4, terms);
+        bench.numbers[VOTE] = 1;
+        bench.numbers[ROLE] = LEADER;
+        bench.numbers[COMMIT] = 1;
+        bench.numbers[NEXT + 1..NEXT + 5].fill(last + 1);
+        for from in [2, 3] {
+            assert_eq!(bench.handed_out(), (0, 1));
+            let yes = format!("01 04 0{from} 01 00000004 01 000{last}");
+            assert_eq!(bench.receive(&yes), 0);
+            assert_eq!(bench.written(), writes(&[], &[]));
+        }
+        assert_eq!(bench.handed_out(), (0, commit));
+    }
 }
 
 #[test]

@@ -4,6 +4,9 @@
 
 use std::process::ExitCode;
 
+#[path = "damage.rs"]
+mod damage;
+
 #[allow(dead_code)] // the message form is for the other programs
 #[path = "twin/frames.rs"]
 mod frames;
@@ -15,6 +18,7 @@ mod library;
 #[path = "random.rs"]
 mod random;
 
+use damage::{Damage, DAMAGES};
 use frames::{FIELDS, LONGEST_TEXT};
 use library::{frame_read, frame_write};
 use random::Random;
@@ -274,116 +278,10 @@ fn unused_filled(r: &mut Random) -> Fields {
     f
 }
 
-fn byte_changed(r: &mut Random) -> Vec<u8> {
-    let mut text = valid_text(r);
-    let place = r.below(text.len());
-    text[place] = match r.below(4) {
-        0 => r.of(b"/:@G`g \r\n\0;"),
-        1 => text[place] ^ 1 << r.below(8),
-        _ => r.next() as u8,
-    };
-    text
-}
-
-/// Another digit, which may well leave a frame.
-fn digit_changed(r: &mut Random) -> Vec<u8> {
-    let mut text = valid_text(r);
-    let place = r.below(text.len() - 1);
-    text[place] = r.of(b"0123456789abcdef0001");
-    text
-}
-
-fn upper_case(r: &mut Random) -> Vec<u8> {
-    let mut text = valid_text(r);
-    let letters: Vec<usize> = (0..text.len()).filter(|&i| text[i] >= b'a').collect();
-    if letters.is_empty() {
-        let place = r.below(text.len() - 1);
-        text[place] = r.of(b"ABCDEF");
-    } else {
-        text[r.of(&letters)].make_ascii_uppercase();
-    }
-    text
-}
-
-fn byte_dropped(r: &mut Random) -> Vec<u8> {
-    let mut text = valid_text(r);
-    text.remove(r.below(text.len()));
-    text
-}
-
-fn byte_added(r: &mut Random) -> Vec<u8> {
-    let mut text = valid_text(r);
-    let byte = if r.one_in(2) {
-        r.of(b"0123456789abcdef")
-    } else {
-        r.next() as u8
-    };
-    text.insert(r.below(text.len() + 1), byte);
-    text
-}
-
-fn no_line_feed(r: &mut Random) -> Vec<u8> {
-    let mut text = valid_text(r);
-    text.pop();
-    text
-}
-
-fn two_line_feeds(r: &mut Random) -> Vec<u8> {
-    let mut text = valid_text(r);
-    text.push(b'\n');
-    text
-}
-
-/// In the middle, either between digits or in place of one.
-fn early_line_feed(r: &mut Random) -> Vec<u8> {
-    let mut text = valid_text(r);
-    let place = r.below(text.len() - 1);
-    if r.one_in(2) {
-        text.insert(place, b'\n');
-    } else {
-        text[place] = b'\n';
-    }
-    text
-}
-
-fn carriage_return(r: &mut Random) -> Vec<u8> {
-    let mut text = valid_text(r);
-    text.insert(text.len() - 1, b'\r');
-    text
-}
-
-/// Short of its end; half of the time with a line feed there.
-fn truncated(r: &mut Random) -> Vec<u8> {
-    let mut text = valid_text(r);
-    text.truncate(r.below(text.len()));
-    if r.one_in(2) {
-        text.push(b'\n');
-    }
-    text
-}
-
-/// Two frames, or a frame and the start of another.
 fn joined(r: &mut Random) -> Vec<u8> {
-    let mut text = valid_text(r);
-    let mut other = valid_text(r);
-    if r.one_in(3) {
-        text.pop();
-    }
-    if r.one_in(3) {
-        other.truncate(1 + r.below(other.len()));
-    }
-    text.append(&mut other);
-    text
-}
-
-fn random_bytes(r: &mut Random) -> Vec<u8> {
-    let length = r.below(201);
-    let mut bytes: Vec<u8> = (0..length).map(|_| r.next() as u8).collect();
-    if r.one_in(2) {
-        bytes.push(b'\n');
-    }
-    bytes.truncate(200);
-    bytes
+    let text = valid_text(r);
+    let other = valid_text(r);
+    damage::joined(r, text, other)
 }
 
 /// Digits only, as many as a frame has, and a line feed.
@@ -425,14 +323,17 @@ fn likely_digits(r: &mut Random) -> Vec<u8> {
     text
 }
 
+#[derive(Clone, Copy)]
 enum Family {
     OfFields(fn(&mut Random) -> Fields),
     OfBytes(fn(&mut Random) -> Vec<u8>),
+    Damaged(Damage),
 }
 
-use Family::{OfBytes, OfFields};
+use Family::{Damaged, OfBytes, OfFields};
 
-const FAMILIES: [(&str, Family); 21] = [
+/// Beside these, one for each damage to a valid text.
+const MADE: [(&str, Family); 11] = [
     ("valid", OfFields(valid)),
     ("one_broken", OfFields(one_broken)),
     ("limits_passed", OfFields(limits_passed)),
@@ -440,21 +341,20 @@ const FAMILIES: [(&str, Family); 21] = [
     ("unused_filled", OfFields(unused_filled)),
     ("junk", OfFields(junk)),
     ("whole", OfBytes(valid_text)),
-    ("byte_changed", OfBytes(byte_changed)),
-    ("digit_changed", OfBytes(digit_changed)),
-    ("upper_case", OfBytes(upper_case)),
-    ("byte_dropped", OfBytes(byte_dropped)),
-    ("byte_added", OfBytes(byte_added)),
-    ("no_line_feed", OfBytes(no_line_feed)),
-    ("two_line_feeds", OfBytes(two_line_feeds)),
-    ("early_line_feed", OfBytes(early_line_feed)),
-    ("carriage_return", OfBytes(carriage_return)),
-    ("truncated", OfBytes(truncated)),
     ("joined", OfBytes(joined)),
-    ("random_bytes", OfBytes(random_bytes)),
+    ("random_bytes", OfBytes(damage::random_bytes)),
     ("random_digits", OfBytes(random_digits)),
     ("likely_digits", OfBytes(likely_digits)),
 ];
+
+const FAMILIES: usize = MADE.len() + DAMAGES.len();
+
+fn family(place: usize) -> (&'static str, Family) {
+    match place.checked_sub(MADE.len()) {
+        None => MADE[place],
+        Some(place) => (DAMAGES[place].0, Damaged(DAMAGES[place].1)),
+    }
+}
 
 // The comparison.
 
@@ -471,7 +371,7 @@ struct Difference {
 
 #[derive(Default)]
 struct Counts {
-    families: [u64; FAMILIES.len()],
+    families: [u64; FAMILIES],
     /// Reads by kind; at 0 those that were no frame.
     reads: [u64; 5],
     /// Writes by answer.
@@ -621,9 +521,9 @@ fn compare_bytes(bytes: &[u8], r: &mut Random, counts: &mut Counts) -> Result<()
 
 fn compare_one(seed: u64, number: u64, counts: &mut Counts) -> Result<(), Difference> {
     let mut r = Random::for_input(seed, number);
-    let family = (number % FAMILIES.len() as u64) as usize;
-    counts.families[family] += 1;
-    match FAMILIES[family].1 {
+    let place = (number % FAMILIES as u64) as usize;
+    counts.families[place] += 1;
+    match family(place).1 {
         OfFields(make) => {
             let f = make(&mut r);
             compare_fields(&f, &mut r, counts)
@@ -631,6 +531,10 @@ fn compare_one(seed: u64, number: u64, counts: &mut Counts) -> Result<(), Differ
         OfBytes(make) => {
             let bytes = make(&mut r);
             compare_bytes(&bytes, &mut r, counts)
+        }
+        Damaged(damage) => {
+            let text = valid_text(&mut r);
+            compare_bytes(&damage(&mut r, text), &mut r, counts)
         }
     }
 }
@@ -648,7 +552,7 @@ fn main() -> ExitCode {
     let mut counts = Counts::default();
     for number in 0..count {
         if let Err(d) = compare_one(seed, number, &mut counts) {
-            let family = FAMILIES[(number % FAMILIES.len() as u64) as usize].0;
+            let (family, _) = family((number % FAMILIES as u64) as usize);
             println!("difference: {}", d.what);
             println!("input: {}", d.input);
             println!("ours: {}", d.ours);
@@ -659,8 +563,8 @@ fn main() -> ExitCode {
     }
 
     let mut reached: Vec<(String, u64)> = Vec::new();
-    for ((name, _), times) in FAMILIES.iter().zip(counts.families) {
-        reached.push((name.to_string(), times));
+    for (place, times) in counts.families.into_iter().enumerate() {
+        reached.push((family(place).0.to_string(), times));
     }
     for kind in 1..=4 {
         reached.push((format!("read_kind_{kind}"), counts.reads[kind]));

@@ -1,387 +1,132 @@
 //! `compare_node COUNT SEED`: the proved box against the twin, on COUNT steps
 //! from random records drawn from SEED. A step is one event on one record,
-//! taken with many rooms. A record depends on the seed and its own number only,
-//! so a run repeats exactly.
+//! taken with many rooms. A record, and a park of boxes, depends on the seed and
+//! its own number only, so a run repeats exactly.
 
-use std::collections::BTreeMap;
 use std::process::ExitCode;
 
-#[allow(dead_code)] // the box's own form is for the other programs
-#[path = "twin/node.rs"]
-mod node;
+#[path = "compare_node/branches.rs"]
+mod branches;
 
-#[allow(dead_code)] // so are some places of the record
-#[path = "twin/records.rs"]
-mod records;
+#[path = "compare_node/call.rs"]
+mod call;
+
+#[path = "damage.rs"]
+mod damage;
 
 #[allow(dead_code)] // frames have a program of their own
 #[path = "library.rs"]
 mod library;
 
+#[allow(dead_code)] // the box's own form is for the other programs
+#[path = "twin/node.rs"]
+mod node;
+
+#[path = "compare_node/park.rs"]
+mod park;
+
 #[path = "random.rs"]
 mod random;
 
-use library::{box_handed_out, box_order, box_prompt, box_start, box_timeout};
+#[path = "compare_node/received.rs"]
+mod received;
+
+#[path = "twin/records.rs"]
+mod records;
+
+#[path = "sides.rs"]
+mod sides;
+
+use branches::{Branches, Counts, Name};
+use call::{Call, Difference, Event, Lent, Rooms, ROOMY};
+use library::NUMBERS;
 use random::Random;
-use records::{Record, COMMIT, LAST, MATCH, MEMBERS, NUMBERS, ROLE, TERM};
+use received::Fields;
+use records::Record;
 
-#[derive(Clone, Copy, Debug)]
-enum Event {
-    Start { me: u8, mask: u8 },
-    Timeout,
-    Prompt,
-    Order(u64),
-    HandedOut,
-}
-
-impl Event {
-    fn name(self) -> &'static str {
-        match self {
-            Event::Start { .. } => "start",
-            Event::Timeout => "timeout",
-            Event::Prompt => "prompt",
-            Event::Order(_) => "order",
-            Event::HandedOut => "handed_out",
-        }
-    }
-}
-
-/// Lengths of the room for the journal line and of that for the messages.
-#[derive(Clone, Copy, Debug, PartialEq)]
-struct Rooms {
-    journal: usize,
-    messages: usize,
-}
-
-/// More than any step needs.
-const ROOMY: Rooms = Rooms {
-    journal: 60,
-    messages: 900,
-};
-
-/// Numbers and bytes on both sides of what is lent; neither side may touch them.
-const GUARD: usize = 8;
-
-/// All that a call may touch. The count of entries handed out takes the first
-/// of the sizes; a start leaves both alone.
-#[derive(Clone, PartialEq)]
-struct Lent {
-    numbers: [u64; NUMBERS + 2 * GUARD],
-    terms: [u32; 256 + 2 * GUARD],
-    orders: [u64; 256 + 2 * GUARD],
-    journal: Vec<u8>,
-    room: Vec<u8>,
-    sizes: [u64; 2 + 2 * GUARD],
-}
-
-impl Lent {
-    /// The record, and around it and in the rooms a pattern that shows what is
-    /// touched.
-    fn new(record: &Record, rooms: Rooms, r: &mut Random) -> Lent {
-        let mut bytes = |length: usize| (0..length).map(|_| r.next() as u8).collect();
-        let journal = bytes(rooms.journal + 2 * GUARD);
-        let room = bytes(rooms.messages + 2 * GUARD);
-        let mut lent = Lent {
-            numbers: [r.next(); NUMBERS + 2 * GUARD],
-            terms: [r.next() as u32; 256 + 2 * GUARD],
-            orders: [r.next(); 256 + 2 * GUARD],
-            journal,
-            room,
-            sizes: [r.next(); 2 + 2 * GUARD],
-        };
-        lent.numbers[GUARD..][..NUMBERS].copy_from_slice(&record.numbers);
-        lent.terms[GUARD..][..256].copy_from_slice(&record.terms);
-        lent.orders[GUARD..][..256].copy_from_slice(&record.orders);
-        lent
-    }
-
-    fn record(&self) -> Record {
-        Record {
-            numbers: middle(&self.numbers),
-            terms: middle(&self.terms),
-            orders: middle(&self.orders),
-        }
-    }
-
-    fn sizes(&self) -> [u64; 2] {
-        middle(&self.sizes)
-    }
-
-    /// The same, with nothing in the middle.
-    fn guards(&self) -> Lent {
-        fn clear<T: Default + Clone>(guarded: &mut [T]) {
-            let end = guarded.len() - GUARD;
-            guarded[GUARD..end].fill(T::default());
-        }
-        let mut guards = self.clone();
-        clear(&mut guards.numbers);
-        clear(&mut guards.terms);
-        clear(&mut guards.orders);
-        clear(&mut guards.journal);
-        clear(&mut guards.room);
-        clear(&mut guards.sizes);
-        guards
-    }
-
-    /// The first bytes of the rooms, as many as that.
-    fn written(&self, sizes: Rooms) -> (&[u8], &[u8]) {
-        (
-            &self.journal[GUARD..][..sizes.journal],
-            &self.room[GUARD..][..sizes.messages],
-        )
-    }
-}
-
-fn lines(text: &[u8]) -> impl Iterator<Item = &[u8]> {
-    text.split_inclusive(|&byte| byte == b'\n')
-}
-
-fn middle<T: Copy, const N: usize>(guarded: &[T]) -> [T; N] {
-    guarded[GUARD..][..N].try_into().expect("as many")
-}
-
-fn middle_mut<T, const N: usize>(guarded: &mut [T]) -> &mut [T; N] {
-    (&mut guarded[GUARD..][..N]).try_into().expect("as many")
-}
-
-/// The refusal; of a start also the bytes written, times 256.
-fn ours(event: Event, lent: &mut Lent) -> u64 {
-    let journal_len = lent.journal.len() - 2 * GUARD;
-    let room_len = lent.room.len() - 2 * GUARD;
-    let answer = unsafe {
-        let numbers = lent.numbers.as_mut_ptr().add(GUARD);
-        let terms = lent.terms.as_mut_ptr().add(GUARD);
-        let orders = lent.orders.as_mut_ptr().add(GUARD);
-        let journal = lent.journal.as_mut_ptr().add(GUARD);
-        let room = lent.room.as_mut_ptr().add(GUARD);
-        let sizes = lent.sizes.as_mut_ptr().add(GUARD);
-        match event {
-            Event::Start { me, mask } => return box_start(me, mask, numbers, room, room_len),
-            Event::Timeout => box_timeout(
-                numbers,
-                terms,
-                orders,
-                journal,
-                journal_len,
-                room,
-                room_len,
-                sizes,
-            ),
-            Event::Prompt => box_prompt(
-                numbers,
-                terms,
-                orders,
-                journal,
-                journal_len,
-                room,
-                room_len,
-                sizes,
-            ),
-            Event::Order(order) => box_order(
-                order,
-                numbers,
-                terms,
-                orders,
-                journal,
-                journal_len,
-                room,
-                room_len,
-                sizes,
-            ),
-            Event::HandedOut => box_handed_out(numbers, terms, orders, sizes),
-        }
-    };
-    answer.into()
-}
-
-fn twin(event: Event, lent: &mut Lent) -> u64 {
-    let numbers = middle_mut(&mut lent.numbers);
-    let terms = middle_mut(&mut lent.terms);
-    let orders = middle_mut(&mut lent.orders);
-    let sizes: &mut [u64; 2] = middle_mut(&mut lent.sizes);
-    let journal_end = lent.journal.len() - GUARD;
-    let journal = &mut lent.journal[GUARD..journal_end];
-    let room_end = lent.room.len() - GUARD;
-    let room = &mut lent.room[GUARD..room_end];
-    let answer = match event {
-        Event::Start { me, mask } => return node::flat_start(me, mask, numbers, room),
-        Event::Timeout => node::flat_timeout(numbers, terms, orders, journal, room, sizes),
-        Event::Prompt => node::flat_prompt(numbers, terms, orders, journal, room, sizes),
-        Event::Order(order) => {
-            node::flat_order(order, numbers, terms, orders, journal, room, sizes)
-        }
-        Event::HandedOut => node::flat_handed_out(numbers, terms, orders, &mut sizes[0]),
-    };
-    answer.into()
-}
-
-/// What to print at a difference: what was lent, and both answers with all
-/// that they may touch.
-struct Difference {
-    what: &'static str,
-    event: Event,
-    before: Lent,
-    ours: (u64, Lent),
-    twin: (u64, Lent),
-}
-
-fn hex<T: std::fmt::LowerHex>(numbers: &[T]) -> String {
-    let numbers: Vec<String> = numbers.iter().map(|n| format!("{n:x}")).collect();
-    numbers.join(" ")
-}
-
-impl Difference {
-    fn print(&self) {
-        println!("difference: {}", self.what);
-        println!("event: {:x?}", self.event);
-        println!("before, numbers in hexadecimal:");
-        self.print_side(&self.before);
-        let Record { terms, orders, .. } = self.before.record();
-        println!("  terms {}", hex(&terms));
-        println!("  orders {}", hex(&orders));
-        for (side, (answer, after)) in [("ours", &self.ours), ("twin", &self.twin)] {
-            println!("{side}: answer {answer}");
-            self.print_side(after);
-        }
-    }
-
-    /// Of the log what is not as before.
-    fn print_side(&self, lent: &Lent) {
-        let (record, before) = (lent.record(), self.before.record());
-        let whole = |guarded: &[u8]| guarded.len() - 2 * GUARD;
-        let rooms = Rooms {
-            journal: whole(&lent.journal),
-            messages: whole(&lent.room),
-        };
-        let (journal, room) = lent.written(rooms);
-        println!("  numbers {}", hex(&record.numbers));
-        println!("  sizes {}", hex(&lent.sizes()));
-        println!("  journal of {}: {}", journal.len(), journal.escape_ascii());
-        println!("  room of {}: {}", room.len(), room.escape_ascii());
-        for place in 0..256 {
-            let entry = (record.terms[place], record.orders[place]);
-            if entry != (before.terms[place], before.orders[place]) {
-                println!("  place {place}: term {:x} order {:x}", entry.0, entry.1);
-            }
-        }
-        if lent.guards() != self.before.guards() {
-            println!("  and something beside what was lent");
-        }
-    }
-}
-
-/// A call on which both sides agreed.
-struct Call {
-    event: Event,
-    before: Lent,
-    answer: u64,
-    after: Lent,
-}
-
-impl Call {
-    fn refusal(&self) -> u8 {
-        self.answer as u8
-    }
-
-    /// The bytes written.
-    fn written(&self) -> Rooms {
-        let [line, messages] = match self.event {
-            _ if self.refusal() != 0 => [0, 0],
-            Event::Start { .. } => [0, self.answer >> 8],
-            Event::HandedOut => [0, 0],
-            _ => self.after.sizes(),
-        };
-        Rooms {
-            journal: line as usize,
-            messages: messages as usize,
-        }
-    }
-
-    /// They agree and are both wrong.
-    fn wrong(self, what: &'static str) -> Difference {
-        Difference {
-            what,
-            event: self.event,
-            before: self.before,
-            ours: (self.answer, self.after.clone()),
-            twin: (self.answer, self.after),
-        }
-    }
-}
-
-/// What the maker of a record says about it.
+/// What is known of a record.
 #[derive(Clone, Copy, PartialEq)]
 enum Rules {
     Kept,
     Broken,
     Unknown,
+    /// Kept, and by the whole park: there is nothing to be alarmed at.
+    InPark,
+}
+
+/// What a step left. After a refusal the next record is the one before.
+struct Step {
+    refusal: u8,
+    next: Record,
+    messages: Vec<Vec<u8>>,
 }
 
 struct Comparison {
     r: Random,
-    counts: BTreeMap<String, u64>,
+    counts: Counts,
     /// Steps to take yet.
     left: u64,
 }
 
+fn is_good(record: &Record) -> bool {
+    let node = node::from_flat(&record.numbers);
+    node.is_some_and(|node| node.is_good(&record.terms))
+}
+
+/// What the two agree on may be wrong all the same.
+fn judge(call: &Call, next: &Record, rules: Rules) -> Result<(), Box<Difference>> {
+    let refusal = call.refusal();
+    let good = matches!(rules, Rules::Kept | Rules::InPark);
+    let wrong = match refusal {
+        5 => "both, 5 with room for all",
+        12 if good => "both, 12 for a good record",
+        6..=8 if rules == Rules::InPark => "both, an alarm in a park that keeps the rules",
+        0 if good && !is_good(next) => "both, a bad record after a good one",
+        0..=11 if rules == Rules::Broken => "both, a bad record taken",
+        _ => return Ok(()),
+    };
+    Err(call.wrong(wrong))
+}
+
 impl Comparison {
-    fn count(&mut self, name: impl Into<String>) {
-        *self.counts.entry(name.into()).or_default() += 1;
-    }
-
-    /// Both take the event with these rooms.
-    fn call(&mut self, event: Event, record: &Record, rooms: Rooms) -> Result<Call, Difference> {
-        let before = Lent::new(record, rooms, &mut self.r);
-        let (mut by_us, mut by_twin) = (before.clone(), before.clone());
-        let answer = ours(event, &mut by_us);
-        let twin_answer = twin(event, &mut by_twin);
-        if answer != twin_answer || by_us != by_twin {
-            return Err(Difference {
-                what: "ours and the twin",
-                event,
-                before,
-                ours: (answer, by_us),
-                twin: (twin_answer, by_twin),
-            });
-        }
-        let call = Call {
-            event,
-            before,
-            answer,
-            after: by_us,
-        };
-        if call.refusal() != 0 && call.after != call.before {
-            return Err(call.wrong("both, a refusal touches something"));
-        }
-        Ok(call)
-    }
-
-    /// One event on one record, with all its rooms. Gives the next record, if
-    /// there is one; none as well when all steps are taken.
+    /// One event on one record, with all its rooms. None when all steps are
+    /// taken.
     fn step(
         &mut self,
         event: Event,
         record: &Record,
         rules: Rules,
-    ) -> Result<Option<Record>, Difference> {
+    ) -> Result<Option<Step>, Box<Difference>> {
         if self.left == 0 {
             return Ok(None);
         }
         self.left -= 1;
-        let call = self.call(event, record, ROOMY)?;
+        let lent = Lent::new(event, record, &mut self.r);
+        let call = Call::new(event, &lent, ROOMY)?;
+        let next = call.after.record();
+        judge(&call, &next, rules)?;
         let refusal = call.refusal();
-        match rules {
-            _ if refusal == 5 => return Err(call.wrong("both, 5 with room for all")),
-            Rules::Kept if refusal == 12 => return Err(call.wrong("both, 12 for a good record")),
-            Rules::Broken if refusal != 12 => return Err(call.wrong("both, a bad record taken")),
-            _ => {}
+        self.counts.add_of(event.name(), refusal.into());
+        Branches {
+            counts: &mut self.counts,
+            call: &call,
+            before: record,
+            after: &next,
         }
-        self.count(format!("{}_{refusal}", event.name()));
-        self.count_branches(&call, record);
-        if refusal == 0 {
-            self.other_rooms(&call, record)?;
-            return Ok(Some(call.after.record()));
+        .count();
+        match refusal {
+            0 => self.other_rooms(&call)?,
+            _ => self.refused_in_other_rooms(&call)?,
         }
+        let messages = call.messages().map(<[u8]>::to_vec).collect();
+        Ok(Some(Step {
+            refusal,
+            next,
+            messages,
+        }))
+    }
+
+    fn refused_in_other_rooms(&mut self, roomy: &Call) -> Result<(), Box<Difference>> {
         let none = Rooms {
             journal: 0,
             messages: 0,
@@ -391,21 +136,21 @@ impl Comparison {
             messages: self.r.below(200),
         };
         for rooms in [none, some] {
-            let short = self.call(event, record, rooms)?;
-            if short.answer != call.answer {
+            let short = Call::new(roomy.event, roomy.before, rooms)?;
+            if short.answer != roomy.answer {
                 return Err(short.wrong("both, another refusal in a short room"));
             }
         }
-        Ok(None)
+        Ok(())
     }
 
     /// The step of this call again, in rooms around what it has written.
-    fn other_rooms(&mut self, roomy: &Call, record: &Record) -> Result<(), Difference> {
+    fn other_rooms(&mut self, roomy: &Call) -> Result<(), Box<Difference>> {
         let exact = roomy.written();
         for rooms in self.rooms_around(exact) {
             let short_journal = rooms.journal < exact.journal;
             let short_room = rooms.messages < exact.messages;
-            let call = self.call(roomy.event, record, rooms)?;
+            let call = Call::new(roomy.event, roomy.before, rooms)?;
             if call.refusal() != if short_journal || short_room { 5 } else { 0 } {
                 return Err(call.wrong("both, 5 not exactly when the room is short"));
             }
@@ -417,13 +162,17 @@ impl Comparison {
             {
                 return Err(call.wrong("both, another step in another room"));
             }
-            match (short_journal, short_room) {
-                (true, true) => self.count("5_by_both"),
-                (true, false) => self.count("5_by_journal"),
-                (false, true) => self.count("5_by_room"),
+            self.counts.add(match (short_journal, short_room) {
+                (true, true) => "5_by_both",
+                (true, false) => "5_by_journal",
+                (false, true) => "5_by_room",
                 (false, false) => continue,
+            });
+            self.counts.add_of(call.event.name(), 5);
+            if let Event::Receive(text) = call.event {
+                let kind = Fields::of(text).map_or(0, |f| f.kind);
+                self.counts.add_of("5_of_kind", kind);
             }
-            self.count(format!("{}_5", roomy.event.name()));
         }
         Ok(())
     }
@@ -459,71 +208,13 @@ impl Comparison {
         .map(|(journal, messages)| Rooms { journal, messages })
     }
 
-    fn count_branches(&mut self, call: &Call, record: &Record) {
-        let before = |place| record.get(place);
-        let after = call.after.record();
-        let (_, messages) = call.after.written(call.written());
-        let full = before(LAST) == 256;
-        match (call.event, call.refusal()) {
-            (Event::Timeout, 0) if before(ROLE) == records::LEADER => {
-                self.count("leader_nothing");
-                if before(TERM) == u32::MAX.into() {
-                    self.count("leader_nothing_in_last_term");
-                }
-            }
-            (Event::Timeout, 0) if after.get(ROLE) == records::LEADER => {
-                self.count("won_at_once");
-            }
-            (Event::Timeout, 0) => self.count(format!("vote_requests_{}", lines(messages).count())),
-            (Event::Timeout, 9) => self.count(format!("9_in_role_{}", before(ROLE))),
-            (Event::Order(_), 3) if full => self.count("3_with_full_log"),
-            (Event::Order(_) | Event::Prompt, 0) => {
-                for append in lines(messages) {
-                    self.count(format!("append_of_{}", (append.len() - 35) / 24));
-                }
-                let appends = lines(messages).count();
-                self.count(format!("{}_appends_{appends}", call.event.name()));
-                if let Event::Order(_) = call.event {
-                    self.count_commit(before(COMMIT), &after);
-                }
-            }
-            (Event::HandedOut, 0) => {
-                let count = call.after.sizes()[0];
-                self.count(match count {
-                    0 => "handed_out_none",
-                    _ if count == before(LAST) => "handed_out_all",
-                    _ => "handed_out_some",
-                });
-            }
-            _ => {}
-        }
-    }
-
-    fn count_commit(&mut self, commit: u64, after: &Record) {
-        if after.get(COMMIT) != commit {
-            let alone = after.others() == 0;
-            self.count(if alone {
-                "commit_moved_alone"
-            } else {
-                "commit_moved"
-            });
-            return;
-        }
-        self.count("commit_not_moved");
-        let matching = |index: u64| {
-            let others = records::boxes(after.others());
-            let others = others
-                .iter()
-                .filter(|&&number| after.get(MATCH + number as usize - 1) >= index);
-            1 + others.count() as u32
-        };
-        if 2 * matching(commit + 1) > after.get(MEMBERS).count_ones() {
-            self.count("commit_not_moved_for_older_term");
-        }
-    }
-
-    /// Every event on the record.
-    fn all_events(&mut self, record: &Record, rules: Rules) -> Result<(), Difference> {
+    /// Every event on the record, with so many frames drawn for it.
+    fn all_events(
+        &mut self,
+        record: &Record,
+        rules: Rules,
+        frames: usize,
+    ) -> Result<(), Box<Difference>> {
         let order = records::order(&mut self.r);
         for event in [
             Event::Timeout,
@@ -533,11 +224,20 @@ impl Comparison {
         ] {
             self.step(event, record, rules)?;
         }
+        for _ in 0..frames {
+            let text = received::frame(&mut self.r, record);
+            self.step(Event::Receive(&text), record, rules)?;
+        }
+        let text = received::misaddressed(&mut self.r, record);
+        self.step(Event::Receive(&text), record, rules)?;
+        let (name, text) = received::damaged(&mut self.r, record);
+        self.counts.add(name);
+        self.step(Event::Receive(&text), record, rules)?;
         Ok(())
     }
 
     /// Starting, with a box and a mask that may be bad.
-    fn start(&mut self) -> Result<(), Difference> {
+    fn start(&mut self) -> Result<(), Box<Difference>> {
         let r = &mut self.r;
         let (me, mask) = records::membership(r);
         let (me, mask) = match r.below(6) {
@@ -556,116 +256,119 @@ impl Comparison {
         Ok(())
     }
 
-    /// Events one after the other, from a start or from a good record.
-    fn session(&mut self) -> Result<(), Difference> {
-        self.count("session");
+    /// A fresh box, half of the time alone.
+    fn started_box(&mut self) -> Result<Option<Record>, Box<Difference>> {
         let r = &mut self.r;
-        let mut record = match r.below(4) {
-            0 => {
-                let (me, mask) = records::membership(r);
-                let mask = if r.one_in(2) { 1 << (me - 1) } else { mask };
-                let record = Record::with_any_log([0; NUMBERS], r);
-                let event = Event::Start {
-                    me: me as u8,
-                    mask: mask as u8,
-                };
-                match self.step(event, &record, Rules::Kept)? {
-                    Some(record) => record,
-                    None => return Ok(()),
-                }
-            }
-            role => {
-                let role = [2, 2, 1, 0][role];
-                records::GOOD[role].1(r)
-            }
+        let (me, mask) = records::membership(r);
+        let mask = if r.one_in(2) { 1 << (me - 1) } else { mask };
+        let record = Record::with_any_log([0; NUMBERS], r);
+        let event = Event::Start {
+            me: me as u8,
+            mask: mask as u8,
         };
-        for _ in 0..20 {
-            let event = match self.r.below(6) {
+        let step = self.step(event, &record, Rules::Kept)?;
+        Ok(step.map(|step| step.next))
+    }
+
+    /// Events one after the other, from a start or from a good record.
+    fn session(&mut self) -> Result<(), Box<Difference>> {
+        self.counts.add("session");
+        let first = match self.r.below(4) {
+            0 => self.started_box()?,
+            role => Some(records::GOOD[[2, 2, 1, 0][role]].1(&mut self.r)),
+        };
+        let Some(mut record) = first else {
+            return Ok(());
+        };
+        for _ in 0..30 {
+            let text = received::frame(&mut self.r, &record);
+            let event = match self.r.below(10) {
                 0 => Event::Timeout,
                 1 => Event::Prompt,
                 2 => Event::HandedOut,
-                _ => Event::Order(records::order(&mut self.r)),
+                3..=5 => Event::Order(records::order(&mut self.r)),
+                _ => Event::Receive(&text),
             };
-            if let Some(next) = self.step(event, &record, Rules::Kept)? {
-                record = next;
+            if let Some(step) = self.step(event, &record, Rules::Kept)? {
+                record = step.next;
             }
         }
         Ok(())
     }
 
     /// Everything of one number.
-    fn number(&mut self, number: u64) -> Result<(), Difference> {
-        let turn = (number / 8) as usize;
-        let broken = records::BROKEN.len();
-        let ((name, make), rules) = match number % 8 {
+    fn number(&mut self, number: u64) -> Result<(), Box<Difference>> {
+        let turn = (number / 16) as usize;
+        let broken = |turn: usize| (records::BROKEN[turn % records::BROKEN.len()], Rules::Broken);
+        let ((name, make), rules) = match number % 16 {
             0 => return self.start(),
             1 => return self.session(),
-            2 => (records::BROKEN[turn % broken], Rules::Broken),
-            3 => {
-                let place = (turn + broken / 2) % broken;
-                (records::BROKEN[place], Rules::Broken)
-            }
-            4 => {
+            2 => return self.park(),
+            3 => broken(2 * turn),
+            4 => broken(2 * turn + 1),
+            5 => {
                 let place = turn % NUMBERS;
-                self.count(format!("too_large_{place}"));
+                self.counts.add_of("too_large", place as u64);
                 let record = records::too_large(&mut self.r, place);
-                return self.all_events(&record, Rules::Broken);
+                return self.all_events(&record, Rules::Broken, 2);
             }
-            5 => (records::ANY[turn % records::ANY.len()], Rules::Unknown),
-            6 => (records::GOOD[turn % 2], Rules::Kept),
+            6 => (records::ANY[turn % records::ANY.len()], Rules::Unknown),
+            7..=9 => (records::GOOD[0], Rules::Kept),
+            10 | 11 => (records::GOOD[1], Rules::Kept),
             _ => (records::GOOD[2], Rules::Kept),
         };
-        self.count(name);
+        self.counts.add(name);
         let record = make(&mut self.r);
-        self.all_events(&record, rules)
+        let frames = if rules == Rules::Kept { 10 } else { 2 };
+        self.all_events(&record, rules, frames)
     }
 }
 
 /// What a run has to reach: a case that no step reached was not compared.
-fn wanted() -> Vec<String> {
-    let mut names: Vec<String> = [
-        "session",
-        "leader_nothing",
-        "leader_nothing_in_last_term",
-        "won_at_once",
-        "9_in_role_0",
-        "9_in_role_1",
-        "3_with_full_log",
-        "commit_moved",
-        "commit_moved_alone",
-        "commit_not_moved",
-        "commit_not_moved_for_older_term",
-        "handed_out_none",
-        "handed_out_some",
-        "handed_out_all",
-        "5_by_journal",
-        "5_by_room",
-        "5_by_both",
-    ]
-    .map(String::from)
-    .to_vec();
+fn wanted() -> Vec<Name> {
+    let mut names: Vec<Name> = Vec::new();
     for (event, answers) in [
         ("start", &[0, 5, 12][..]),
         ("timeout", &[0, 5, 9, 12]),
         ("prompt", &[0, 3, 5, 12]),
         ("order", &[0, 3, 4, 5, 12]),
+        ("receive", &[0, 1, 2, 5, 6, 7, 8, 12]),
         ("handed_out", &[0, 12]),
+        ("5_of_kind", &[1, 2, 3, 4]),
     ] {
-        names.extend(answers.iter().map(|answer| format!("{event}_{answer}")));
+        names.extend(answers.iter().map(|answer| (event, Some(*answer))));
     }
-    names.extend((1..=6).map(|n| format!("vote_requests_{n}")));
-    names.extend((0..=6).map(|n| format!("order_appends_{n}")));
-    names.extend((0..=6).map(|n| format!("prompt_appends_{n}")));
-    names.extend((0..=4).map(|n| format!("append_of_{n}")));
-    for (name, _) in records::GOOD
+    let made = records::GOOD
         .iter()
         .chain(&records::BROKEN)
-        .chain(&records::ANY)
-    {
-        names.push(name.to_string());
-    }
-    names.extend((0..NUMBERS).map(|place| format!("too_large_{place}")));
+        .chain(&records::ANY);
+    names.extend(made.map(|(name, _)| (*name, None)));
+    names.extend((0..NUMBERS).map(|place| ("too_large", Some(place as u64))));
+    names.extend(damage::DAMAGES.map(|(name, _)| (name, None)));
+    let others = ["empty", "head", "random_bytes", "joined", "session"];
+    let short = ["5_by_journal", "5_by_room", "5_by_both"];
+    let plain = others.iter().chain(&short).chain(&park::WANTED);
+    names.extend(plain.map(|name| (*name, None)));
+    names.extend(branches::wanted());
     names
+}
+
+fn spelled((name, number): Name) -> String {
+    match number {
+        Some(number) => format!("{name}_{number}"),
+        None => name.into(),
+    }
+}
+
+/// The counts, and whether each case was reached.
+fn report(counts: &Counts) -> Result<(), String> {
+    let times = |name: Name| format!("{} {}", spelled(name), counts.times(name));
+    let line: Vec<String> = wanted().into_iter().map(times).collect();
+    println!("{}", line.join(", "));
+    match wanted().into_iter().find(|name| counts.times(*name) == 0) {
+        Some(name) => Err(spelled(name)),
+        None => Ok(()),
+    }
 }
 
 fn main() -> ExitCode {
@@ -680,7 +383,7 @@ fn main() -> ExitCode {
 
     let mut comparison = Comparison {
         r: Random::for_input(seed, 0),
-        counts: BTreeMap::new(),
+        counts: Counts::default(),
         left: count,
     };
     let mut number = 0;
@@ -693,22 +396,7 @@ fn main() -> ExitCode {
         }
         number += 1;
     }
-
-    let counts = &comparison.counts;
-    let reached: Vec<(String, u64)> = wanted()
-        .into_iter()
-        .map(|name| {
-            let times = counts.get(&name).copied().unwrap_or(0);
-            (name, times)
-        })
-        .collect();
-    let line: Vec<String> = reached
-        .iter()
-        .map(|(name, times)| format!("{name} {times}"))
-        .collect();
-    println!("{}", line.join(", "));
-
-    if let Some((name, _)) = reached.iter().find(|(_, times)| *times == 0) {
+    if let Err(name) = report(&comparison.counts) {
         println!("node: {name} was never reached ({count} steps, seed {seed})");
         return ExitCode::FAILURE;
     }

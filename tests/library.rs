@@ -1,4 +1,5 @@
-//! The proved library's C functions, as `crates/abi` has them.
+//! The proved library's C functions, as `crates/abi` has them, and those of the
+//! box a second time with what is lent in Rust's types.
 
 #[link(name = "abi", kind = "static")]
 unsafe extern "C" {
@@ -36,10 +37,156 @@ unsafe extern "C" {
         room_len: usize,
         sizes: *mut u64,
     ) -> u8;
+    pub fn box_receive(
+        text: *const u8,
+        text_len: usize,
+        numbers: *mut u64,
+        terms: *mut u32,
+        orders: *mut u64,
+        journal: *mut u8,
+        journal_len: usize,
+        room: *mut u8,
+        room_len: usize,
+        sizes: *mut u64,
+    ) -> u8;
     pub fn box_handed_out(
         numbers: *const u64,
         terms: *const u32,
         orders: *const u64,
         count: *mut u64,
     ) -> u8;
+}
+
+pub const NUMBERS: usize = 22;
+
+// The places of a box's numbers; box i has the place i - 1 after the last two.
+pub const ME: usize = 0;
+pub const MEMBERS: usize = 1;
+pub const TERM: usize = 2;
+pub const VOTE: usize = 3;
+pub const LAST: usize = 4;
+pub const COMMIT: usize = 5;
+pub const ROLE: usize = 6;
+pub const VOTES: usize = 7;
+pub const NEXT: usize = 8;
+pub const MATCH: usize = 15;
+
+pub const FOLLOWER: u64 = 0;
+pub const CANDIDATE: u64 = 1;
+pub const LEADER: u64 = 2;
+
+pub type Numbers = [u64; NUMBERS];
+pub type Terms = [u32; 256];
+pub type Orders = [u64; 256];
+/// Bytes of the journal line and of the messages.
+pub type Sizes = [u64; 2];
+
+/// The refusal and 256 times the bytes written.
+pub fn start(me: u8, mask: u8, numbers: &mut Numbers, room: &mut [u8]) -> u64 {
+    unsafe {
+        box_start(
+            me,
+            mask,
+            numbers.as_mut_ptr(),
+            room.as_mut_ptr(),
+            room.len(),
+        )
+    }
+}
+
+pub fn timeout(
+    numbers: &mut Numbers,
+    terms: &Terms,
+    orders: &Orders,
+    journal: &mut [u8],
+    room: &mut [u8],
+    sizes: &mut Sizes,
+) -> u8 {
+    unsafe {
+        box_timeout(
+            numbers.as_mut_ptr(),
+            terms.as_ptr(),
+            orders.as_ptr(),
+            journal.as_mut_ptr(),
+            journal.len(),
+            room.as_mut_ptr(),
+            room.len(),
+            sizes.as_mut_ptr(),
+        )
+    }
+}
+
+pub fn prompt(
+    numbers: &mut Numbers,
+    terms: &Terms,
+    orders: &Orders,
+    journal: &mut [u8],
+    room: &mut [u8],
+    sizes: &mut Sizes,
+) -> u8 {
+    unsafe {
+        box_prompt(
+            numbers.as_mut_ptr(),
+            terms.as_ptr(),
+            orders.as_ptr(),
+            journal.as_mut_ptr(),
+            journal.len(),
+            room.as_mut_ptr(),
+            room.len(),
+            sizes.as_mut_ptr(),
+        )
+    }
+}
+
+pub fn order(
+    order: u64,
+    numbers: &mut Numbers,
+    terms: &mut Terms,
+    orders: &mut Orders,
+    journal: &mut [u8],
+    room: &mut [u8],
+    sizes: &mut Sizes,
+) -> u8 {
+    unsafe {
+        box_order(
+            order,
+            numbers.as_mut_ptr(),
+            terms.as_mut_ptr(),
+            orders.as_mut_ptr(),
+            journal.as_mut_ptr(),
+            journal.len(),
+            room.as_mut_ptr(),
+            room.len(),
+            sizes.as_mut_ptr(),
+        )
+    }
+}
+
+pub fn receive(
+    text: &[u8],
+    numbers: &mut Numbers,
+    terms: &mut Terms,
+    orders: &mut Orders,
+    journal: &mut [u8],
+    room: &mut [u8],
+    sizes: &mut Sizes,
+) -> u8 {
+    unsafe {
+        box_receive(
+            text.as_ptr(),
+            text.len(),
+            numbers.as_mut_ptr(),
+            terms.as_mut_ptr(),
+            orders.as_mut_ptr(),
+            journal.as_mut_ptr(),
+            journal.len(),
+            room.as_mut_ptr(),
+            room.len(),
+            sizes.as_mut_ptr(),
+        )
+    }
+}
+
+pub fn handed_out(numbers: &Numbers, terms: &Terms, orders: &Orders, count: &mut u64) -> u8 {
+    unsafe { box_handed_out(numbers.as_ptr(), terms.as_ptr(), orders.as_ptr(), count) }
 }

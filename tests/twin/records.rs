@@ -2,28 +2,14 @@
 //! 01, and garbage. They are made from 01's rules alone, so that a rule that
 //! the twin forgets is found as well.
 
+use crate::library::{
+    CANDIDATE, COMMIT, FOLLOWER, LAST, LEADER, MATCH, ME, MEMBERS, NEXT, NUMBERS, ROLE, TERM, VOTE,
+    VOTES,
+};
 use crate::random::Random;
 
-pub const NUMBERS: usize = 22;
-
-// The places of the flat form; box i has the place i - 1 after these two.
-pub const ME: usize = 0;
-pub const MEMBERS: usize = 1;
-pub const TERM: usize = 2;
-pub const VOTE: usize = 3;
-pub const LAST: usize = 4;
-pub const COMMIT: usize = 5;
-pub const ROLE: usize = 6;
-pub const VOTES: usize = 7;
-pub const NEXT: usize = 8;
-pub const MATCH: usize = 15;
-
-pub const FOLLOWER: u64 = 0;
-pub const CANDIDATE: u64 = 1;
-pub const LEADER: u64 = 2;
-
 const ALL_BOXES: u64 = 0x7f;
-const LAST_TERM: u64 = u32::MAX as u64;
+pub const LAST_TERM: u64 = u32::MAX as u64;
 
 #[derive(Clone, PartialEq)]
 pub struct Record {
@@ -66,7 +52,7 @@ pub fn boxes(mask: u64) -> Vec<u64> {
         .collect()
 }
 
-fn bit(number: u64) -> u64 {
+pub fn bit(number: u64) -> u64 {
     1 << (number - 1)
 }
 
@@ -112,15 +98,27 @@ impl Record {
         self.get(MEMBERS) & !bit(self.get(ME))
     }
 
-    fn strangers(&self) -> u64 {
+    pub fn strangers(&self) -> u64 {
         ALL_BOXES & !self.get(MEMBERS)
     }
 
-    fn last_term(&self) -> u64 {
-        match self.get(LAST) {
+    pub fn last_term(&self) -> u64 {
+        self.term_at(self.get(LAST))
+    }
+
+    /// The term of the entry there, 0 at index 0.
+    pub fn term_at(&self, index: u64) -> u64 {
+        match index {
             0 => 0,
-            last => self.terms[last as usize - 1].into(),
+            _ => self.terms[index as usize - 1].into(),
         }
+    }
+
+    /// What a restart leaves.
+    pub fn restart(&mut self) {
+        self.set(ROLE, FOLLOWER);
+        self.set(COMMIT, 0);
+        self.numbers[VOTES..].fill(0);
     }
 }
 
@@ -148,7 +146,7 @@ fn term_from(r: &mut Random, low: u64) -> u64 {
 }
 
 /// `low` to `high`, often one of the two.
-fn term_within(r: &mut Random, low: u64, high: u64) -> u64 {
+pub fn term_within(r: &mut Random, low: u64, high: u64) -> u64 {
     match r.below(4) {
         0 => low,
         1 => high,
@@ -240,6 +238,24 @@ fn good_with(r: &mut Random, role: u64, holds: impl Fn(&Record) -> bool) -> Reco
             return record;
         }
     }
+}
+
+/// The boxes of one park after a power loss: each holds a part of one log, and
+/// nobody has voted yet in their term, which is above the log's.
+pub fn park(r: &mut Random) -> Vec<Record> {
+    let whole = good_with(r, FOLLOWER, |record| {
+        record.others() != 0 && record.last_term() < record.get(TERM)
+    });
+    let one = |number: u64| {
+        let mut record = whole.clone();
+        record.restart();
+        record.set(ME, number);
+        record.set(VOTE, 0);
+        let lacking = if r.one_in(2) { 0 } else { r.between(0, 9) };
+        record.set(LAST, whole.get(LAST).saturating_sub(lacking));
+        record
+    };
+    boxes(whole.get(MEMBERS)).into_iter().map(one).collect()
 }
 
 fn any_role(r: &mut Random) -> u64 {

@@ -7,6 +7,7 @@ ghost use Prim.Native.Nat.{_≤_};
 ghost use lib.Dec.{eqb};
 ghost use Rattle.raft.specs.Step.{timeout, prompt};
 ghost use Rattle.raft.specs.Step.{order as ordering};
+ghost use Rattle.raft.specs.Receive.{receive as receiving};
 ghost use Rattle.abi.specs.Boxes.{box-range, box-in, stored-7, box-flat, sized-by, BoxFlat, box-event, StartFlat, box-begun, HandedFlat, box-handed};
 
 // Each number fits the field that it is for.
@@ -183,6 +184,26 @@ pub extern "C" fn box_order(
     }
     let b = box_in(n);
     let step = b.order(order, terms, orders, journal, room);
+    put_step(n, sizes, step)
+}
+
+#[no_mangle]
+pub extern "C" fn box_receive(
+    text: &[u8],
+    n: &mut [u64; 22],
+    terms: &mut [u32; 256],
+    orders: &mut [u64; 256],
+    journal: &mut [u8],
+    room: &mut [u8],
+    sizes: &mut [u64; 2],
+) -> u8
+    ensures { λ r. ⌜ _≡_ {A = BoxFlat} (record { refusal = r; numbers = now (n .exit); terms = now (terms .exit); orders = now (orders .exit); journal = now (journal .exit); room = now (room .exit); sizes = now (sizes .exit) }) (box-event (receiving (now (text .entry))) (now (n .entry)) (now (terms .entry)) (now (orders .entry)) (now (journal .entry)) (now (room .entry)) (now (sizes .entry))) ⌝ }
+{
+    if !box_range(n) {
+        return 12;
+    }
+    let b = box_in(n);
+    let step = b.receive(text, terms, orders, journal, room);
     put_step(n, sizes, step)
 }
 

@@ -1,0 +1,307 @@
+//! One call, taken by both sides with all that it may touch.
+
+use std::fmt;
+
+use crate::library::{Numbers, Orders, Sizes, Terms, NUMBERS};
+use crate::random::Random;
+use crate::records::Record;
+use crate::sides::{Side, OURS, TWIN};
+
+#[derive(Clone, Copy)]
+pub enum Event<'a> {
+    Start { me: u8, mask: u8 },
+    Timeout,
+    Prompt,
+    Order(u64),
+    Receive(&'a [u8]),
+    HandedOut,
+}
+
+impl Event<'_> {
+    pub fn name(self) -> &'static str {
+        match self {
+            Event::Start { .. } => "start",
+            Event::Timeout => "timeout",
+            Event::Prompt => "prompt",
+            Event::Order(_) => "order",
+            Event::Receive(_) => "receive",
+            Event::HandedOut => "handed_out",
+        }
+    }
+}
+
+impl fmt::Display for Event<'_> {
+    fn fmt(&self, f: &mut fmt::Formatter) -> fmt::Result {
+        f.write_str(self.name())?;
+        match self {
+            Event::Start { me, mask } => write!(f, " {me:x} {mask:x}"),
+            Event::Order(order) => write!(f, " {order:x}"),
+            Event::Receive(text) => write!(f, " \"{}\"", text.escape_ascii()),
+            _ => Ok(()),
+        }
+    }
+}
+
+/// Lengths of the room for the journal line and of that for the messages.
+#[derive(Clone, Copy, PartialEq)]
+pub struct Rooms {
+    pub journal: usize,
+    pub messages: usize,
+}
+
+/// More than any step needs.
+pub const ROOMY: Rooms = Rooms {
+    journal: 119 + 40,
+    messages: 786 + 70,
+};
+
+/// No text that is received is longer.
+const TEXT: usize = 400;
+
+/// Numbers and bytes on both sides of what is lent; neither side may touch them.
+const GUARD: usize = 8;
+const BOTH: usize = 2 * GUARD;
+
+/// All that a call may touch, and around it. Of the rooms and the text a call is
+/// lent the first bytes only. The count of entries handed out takes the first of
+/// the sizes; a start leaves both alone.
+#[derive(Clone, PartialEq)]
+pub struct Lent {
+    numbers: [u64; NUMBERS + BOTH],
+    terms: [u32; 256 + BOTH],
+    orders: [u64; 256 + BOTH],
+    journal: [u8; ROOMY.journal + BOTH],
+    room: [u8; ROOMY.messages + BOTH],
+    sizes: [u64; 2 + BOTH],
+    text: [u8; TEXT + BOTH],
+}
+
+fn scatter(bytes: &mut [u8], r: &mut Random) {
+    for part in bytes.chunks_mut(8) {
+        part.copy_from_slice(&r.next().to_ne_bytes()[..part.len()]);
+    }
+}
+
+impl Lent {
+    /// The record and the text, and around them and in the rooms a pattern that
+    /// shows what is touched.
+    pub fn new(event: Event, record: &Record, r: &mut Random) -> Lent {
+        // What lies past a text that lacks its end would make a frame of it.
+        let bait = r.of(b"\n\n01");
+        let mut lent = Lent {
+            numbers: [r.next(); NUMBERS + BOTH],
+            terms: [r.next() as u32; 256 + BOTH],
+            orders: [r.next(); 256 + BOTH],
+            journal: [0; ROOMY.journal + BOTH],
+            room: [0; ROOMY.messages + BOTH],
+            sizes: [r.next(); 2 + BOTH],
+            text: [bait; TEXT + BOTH],
+        };
+        scatter(&mut lent.journal, r);
+        scatter(&mut lent.room, r);
+        lent.numbers[GUARD..][..NUMBERS].copy_from_slice(&record.numbers);
+        lent.terms[GUARD..][..256].copy_from_slice(&record.terms);
+        lent.orders[GUARD..][..256].copy_from_slice(&record.orders);
+        if let Event::Receive(text) = event {
+            lent.text[GUARD..][..text.len()].copy_from_slice(text);
+        }
+        lent
+    }
+
+    pub fn record(&self) -> Record {
+        Record {
+            numbers: middle(&self.numbers),
+            terms: middle(&self.terms),
+            orders: middle(&self.orders),
+        }
+    }
+
+    pub fn sizes(&self) -> Sizes {
+        middle(&self.sizes)
+    }
+
+    /// The first bytes of the rooms, as many as that.
+    pub fn written(&self, sizes: Rooms) -> (&[u8], &[u8]) {
+        (
+            &self.journal[GUARD..][..sizes.journal],
+            &self.room[GUARD..][..sizes.messages],
+        )
+    }
+}
+
+fn middle<T: Copy, const N: usize>(guarded: &[T]) -> [T; N] {
+    guarded[GUARD..][..N].try_into().expect("as many")
+}
+
+fn middle_mut<T, const N: usize>(guarded: &mut [T]) -> &mut [T; N] {
+    (&mut guarded[GUARD..][..N]).try_into().expect("as many")
+}
+
+/// The refusal; of a start also the bytes written, times 256.
+fn take(side: &Side, event: Event, lent: &mut Lent, rooms: Rooms) -> u64 {
+    let numbers: &mut Numbers = middle_mut(&mut lent.numbers);
+    let terms: &mut Terms = middle_mut(&mut lent.terms);
+    let orders: &mut Orders = middle_mut(&mut lent.orders);
+    let sizes: &mut Sizes = middle_mut(&mut lent.sizes);
+    let journal = &mut lent.journal[GUARD..][..rooms.journal];
+    let room = &mut lent.room[GUARD..][..rooms.messages];
+    let answer = match event {
+        Event::Start { me, mask } => return (side.start)(me, mask, numbers, room),
+        Event::Timeout => (side.timeout)(numbers, terms, orders, journal, room, sizes),
+        Event::Prompt => (side.prompt)(numbers, terms, orders, journal, room, sizes),
+        Event::Order(order) => (side.order)(order, numbers, terms, orders, journal, room, sizes),
+        Event::Receive(text) => {
+            let text = &lent.text[GUARD..][..text.len()];
+            (side.receive)(text, numbers, terms, orders, journal, room, sizes)
+        }
+        Event::HandedOut => (side.handed_out)(numbers, terms, orders, &mut sizes[0]),
+    };
+    answer.into()
+}
+
+/// A call on which both sides agreed.
+pub struct Call<'a> {
+    pub event: Event<'a>,
+    pub before: &'a Lent,
+    pub rooms: Rooms,
+    pub answer: u64,
+    pub after: Lent,
+}
+
+impl<'a> Call<'a> {
+    /// Both take the event with these rooms.
+    pub fn new(
+        event: Event<'a>,
+        before: &'a Lent,
+        rooms: Rooms,
+    ) -> Result<Call<'a>, Box<Difference>> {
+        let (mut by_us, mut by_twin) = (before.clone(), before.clone());
+        let answer = take(&OURS, event, &mut by_us, rooms);
+        let twin_answer = take(&TWIN, event, &mut by_twin, rooms);
+        if answer != twin_answer || by_us != by_twin {
+            return Err(Box::new(Difference {
+                what: "ours and the twin",
+                event: event.to_string(),
+                rooms,
+                before: before.clone(),
+                ours: (answer, by_us),
+                twin: (twin_answer, by_twin),
+            }));
+        }
+        let call = Call {
+            event,
+            before,
+            rooms,
+            answer,
+            after: by_us,
+        };
+        if call.refusal() != 0 && call.after != *before {
+            return Err(call.wrong("both, a refusal touches something"));
+        }
+        Ok(call)
+    }
+
+    pub fn refusal(&self) -> u8 {
+        self.answer as u8
+    }
+
+    /// The bytes written.
+    pub fn written(&self) -> Rooms {
+        let [line, messages] = match self.event {
+            _ if self.refusal() != 0 => [0, 0],
+            Event::Start { .. } => [0, self.answer >> 8],
+            Event::HandedOut => [0, 0],
+            _ => self.after.sizes(),
+        };
+        Rooms {
+            journal: line as usize,
+            messages: messages as usize,
+        }
+    }
+
+    /// The messages, each with its line feed.
+    pub fn messages(&self) -> impl Iterator<Item = &[u8]> {
+        let (_, messages) = self.after.written(self.written());
+        messages.split_inclusive(|&byte| byte == b'\n')
+    }
+
+    /// They agree and are both wrong.
+    pub fn wrong(&self, what: &'static str) -> Box<Difference> {
+        let side = (self.answer, self.after.clone());
+        Box::new(Difference {
+            what,
+            event: self.event.to_string(),
+            rooms: self.rooms,
+            before: self.before.clone(),
+            ours: side.clone(),
+            twin: side,
+        })
+    }
+}
+
+/// What to print at a difference: what was lent, and both answers with all
+/// that they may touch.
+pub struct Difference {
+    what: &'static str,
+    event: String,
+    rooms: Rooms,
+    before: Lent,
+    ours: (u64, Lent),
+    twin: (u64, Lent),
+}
+
+fn hex<T: fmt::LowerHex>(numbers: &[T]) -> String {
+    let numbers: Vec<String> = numbers.iter().map(|n| format!("{n:x}")).collect();
+    numbers.join(" ")
+}
+
+impl Difference {
+    pub fn print(&self) {
+        println!("difference: {}", self.what);
+        println!("event: {}", self.event);
+        println!("before, numbers in hexadecimal:");
+        self.print_side(&self.before);
+        let Record { terms, orders, .. } = self.before.record();
+        println!("  terms {}", hex(&terms));
+        println!("  orders {}", hex(&orders));
+        for (side, (answer, after)) in [("ours", &self.ours), ("twin", &self.twin)] {
+            println!("{side}: answer {answer}");
+            self.print_side(after);
+        }
+    }
+
+    /// Of the log what is not as before.
+    fn print_side(&self, lent: &Lent) {
+        let (record, before) = (lent.record(), self.before.record());
+        let (journal, room) = lent.written(self.rooms);
+        println!("  numbers {}", hex(&record.numbers));
+        println!("  sizes {}", hex(&lent.sizes()));
+        println!("  journal of {}: {}", journal.len(), journal.escape_ascii());
+        println!("  room of {}: {}", room.len(), room.escape_ascii());
+        for place in 0..256 {
+            let entry = (record.terms[place], record.orders[place]);
+            if entry != (before.terms[place], before.orders[place]) {
+                println!("  place {place}: term {:x} order {:x}", entry.0, entry.1);
+            }
+        }
+        if !self.is_around(lent) {
+            println!("  and something beside what was lent");
+        }
+    }
+
+    /// Around what was lent, this is as before.
+    fn is_around(&self, lent: &Lent) -> bool {
+        fn same<T: PartialEq>(one: &[T], other: &[T], lent: usize) -> bool {
+            let end = GUARD + lent;
+            one[..GUARD] == other[..GUARD] && one[end..] == other[end..]
+        }
+        let before = &self.before;
+        same(&lent.numbers, &before.numbers, NUMBERS)
+            && same(&lent.terms, &before.terms, 256)
+            && same(&lent.orders, &before.orders, 256)
+            && same(&lent.journal, &before.journal, self.rooms.journal)
+            && same(&lent.room, &before.room, self.rooms.messages)
+            && same(&lent.sizes, &before.sizes, 2)
+            && lent.text == before.text
+    }
+}

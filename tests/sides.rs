@@ -1,0 +1,38 @@
+//! The proved box and the twin, each call with one signature for both.
+
+use crate::library::{self, Numbers, Orders, Sizes, Terms};
+use crate::node;
+
+/// A timeout or a prompt, which leave the log alone.
+type OverLog = fn(&mut Numbers, &Terms, &Orders, &mut [u8], &mut [u8], &mut Sizes) -> u8;
+type Order = fn(u64, &mut Numbers, &mut Terms, &mut Orders, &mut [u8], &mut [u8], &mut Sizes) -> u8;
+type Receive =
+    fn(&[u8], &mut Numbers, &mut Terms, &mut Orders, &mut [u8], &mut [u8], &mut Sizes) -> u8;
+
+#[derive(Clone, Copy)]
+pub struct Side {
+    pub start: fn(u8, u8, &mut Numbers, &mut [u8]) -> u64,
+    pub timeout: OverLog,
+    pub prompt: OverLog,
+    pub order: Order,
+    pub receive: Receive,
+    pub handed_out: fn(&Numbers, &Terms, &Orders, &mut u64) -> u8,
+}
+
+pub const OURS: Side = Side {
+    start: library::start,
+    timeout: library::timeout,
+    prompt: library::prompt,
+    order: library::order,
+    receive: library::receive,
+    handed_out: library::handed_out,
+};
+
+pub const TWIN: Side = Side {
+    start: node::flat_start,
+    timeout: node::flat_timeout,
+    prompt: node::flat_prompt,
+    order: node::flat_order,
+    receive: node::flat_receive,
+    handed_out: node::flat_handed_out,
+};
