@@ -21,44 +21,6 @@ use Rattle.raft.specs.Step.{Outcome}
 use Rattle.node.specs.Calls.{entries-of, state-of, bare, untouched, run, call}
 pub use Rattle.raft.specs.LentLaws.{length-entries-of, entries-more}
 
--- the bit of a box, as a shift makes it
-pub bit-shift : (i : ℕ) → i ≤ 7 → 1 * 2 ^ (i - 1) % 256 ≡ bit i
-bit-shift i h = eqb-true _ _ (at-each (λ k. eqb (1 * 2 ^ (k - 1) % 256) (bit k)) 8 refl i (omega arith))
-
--- the term of the last entry, or what stood before all of them
-unfoldable pub final : ℕ → List Entry → ℕ
-final p [] = p
-final p (e ∷ es) = final (e .term) es
-
-final-more : (p : ℕ) (es : List Entry) (e : Entry) → final p (es ++ (e ∷ [])) ≡ e .term
-unfolding final
-final-more p [] e = refl
-final-more p (x ∷ es) e = final-more (x .term) es e
-
--- four tests behind one are one test behind it
-behind : (f a b c d : Bool) → (f && (a && b && c && d)) ≡ (f && a && b && c && d)
-behind true a b c d = refl
-behind false a b c d = refl
-
--- the entry rule with one entry more
-in-order-last : (p top : ℕ) (es : List Entry) (e : Entry)
-    → in-order p top (es ++ (e ∷ [])) ≡ (in-order p top es && leb 1 (e .term) && leb (final p es) (e .term) && leb (e .term) top)
-unfolding in-order final
-in-order-last p top [] e = refl
-in-order-last p top (x ∷ es) e =
-    rw (in-order-last (x .term) top es e)
-    (behind (follows p top (x .term)) (in-order (x .term) top es) (leb 1 (e .term)) (leb (final (x .term) es) (e .term)) (leb (e .term) top))
-
--- as the code goes on from entry to entry
-pub order-next : (terms : List ℕ) (i term : ℕ)
-    → in-order 0 term (entries-of terms [] 0 (i + 1))
-    ≡ (in-order 0 term (entries-of terms [] 0 i) && leb 1 (getD terms i 0) && leb (final 0 (entries-of terms [] 0 i)) (getD terms i 0) && leb (getD terms i 0) term)
-order-next terms i term =
-    rw (add-one i, entries-more terms [] 0 i, zero-add) (in-order-last 0 term (entries-of terms [] 0 i) _)
-
-pub final-next : (terms : List ℕ) (i : ℕ) → final 0 (entries-of terms [] 0 (i + 1)) ≡ getD terms i 0
-final-next terms i = rw (add-one i, entries-more terms [] 0 i, zero-add) (final-more 0 (entries-of terms [] 0 i) _)
-
 -- ---- the record's rules
 
 -- the rules of next and match, in the code's order

@@ -104,7 +104,7 @@ fn accept(
         let next = following(t, t.last, settled);
         return answer_append(n, next, from, true, end, journal, room);
     }
-    if place < t.commit as usize {
+    if rules::cuts_committed(place, t.commit) {
         return refused(n, 7);
     }
     let next = following(t, end, settled);

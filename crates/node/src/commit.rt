@@ -2,8 +2,8 @@
 //
 // The largest index that a majority matches is one that some box matches, so seven tests find it, however long the log is.
 use crate::Node;
-use crate::mask::bit;
-use crate::mask::is_majority;
+use rules::bit;
+use rules::is_majority;
 ghost use mathlib.Core.Path.{_≡_};
 ghost use mathlib.Core.Bool.{cond, _&&_};
 ghost use Prim.Native.Nat.{_≤_};
@@ -83,14 +83,4 @@ pub fn best(n: Node) -> u16
     let e = better(n, d, 5);
     let f = better(n, e, 6);
     better(n, f, 7)
-}
-
-// The commit, once the best index and the term of the entry there are known.
-pub fn commit_at(n: Node, found: u16, term: u32) -> u16
-    ensures { λ r. ⌜ r ≡ cond (ltb (n .commit) found && eqb term (n .term)) found (n .commit) ⌝ }
-{
-    if (n.commit < found) & (term == n.term) {
-        return found;
-    }
-    n.commit
 }

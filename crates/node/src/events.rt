@@ -3,7 +3,6 @@
 use crate::Node;
 use crate::Step;
 use crate::journal::put_line;
-use crate::mask::is_majority;
 use crate::roles::leading;
 use crate::roles::ordered;
 use crate::roles::settled;
@@ -15,6 +14,7 @@ use crate::sends::requests_size;
 use crate::sends::term_at;
 use frames::Entry;
 use frames::Fields;
+use rules::is_majority;
 ghost use mathlib.Core.Path.{_≡_};
 ghost use mathlib.Core.Bool.{true};
 ghost use mathlib.Core.List.{[], _∷_};
@@ -114,7 +114,7 @@ pub fn run_timeout(
     if n.term == 4294967295 {
         return refused(n, 9);
     }
-    if is_majority(n.members, crate::mask::bit(n.me)) {
+    if is_majority(n.members, rules::bit(n.me)) {
         return win(n, terms, orders, journal, room);
     }
     stand(n, terms, orders, journal, room)

@@ -5,7 +5,6 @@ mod calls;
 mod commit;
 mod events;
 mod journal;
-mod mask;
 mod receive;
 mod record;
 mod roles;
@@ -65,7 +64,7 @@ impl Node {
     pub fn start(me: u8, mask: u8, room: &mut [u8]) -> Started
         ensures { λ r. ⌜ _≡_ {A = Begun} (record { answer = r; room = now (room .exit) }) (begun me mask (now (room .entry))) ⌝ }
     {
-        if !record::is_membership(me, mask) {
+        if !rules::is_membership(me, mask) {
             return Started {
                 refusal: 12,
                 node: Self::fresh(0, 0),

@@ -1,73 +1,23 @@
 // The record's rules, in 01's order. A record is whatever the caller hands over.
 use crate::Node;
-use crate::mask::holds;
-use crate::mask::is_other;
 use frames::Fields;
+use rules::are_votes;
+use rules::in_order;
+use rules::is_membership;
+use rules::is_other;
+use rules::is_role;
+use rules::is_sent;
+use rules::is_vote;
 ghost use mathlib.Core.Path.{_≡_};
 ghost use mathlib.Core.Bool.{_&&_};
-ghost use mathlib.Core.List.{List, []};
+ghost use mathlib.Core.List.{List};
 ghost use Prim.Native.Nat.{ℕ, _≤_};
 ghost use lib.Dec.{eqb};
 ghost use Rattle.frames.specs.Limits.{log-limit};
 ghost use lib.ListN.{length};
-ghost use Rattle.frames.specs.Rules.{is-box, in-order};
-ghost use Rattle.raft.specs.Record.{leader, of-box, is-other, is-membership, is-vote, is-role, are-votes, is-sent, good};
-ghost use Rattle.node.specs.Calls.{entries-of, state-of, bare};
+ghost use Rattle.raft.specs.Record.{leader, of-box, is-other, is-sent, good};
+ghost use Rattle.node.specs.Calls.{state-of, bare};
 ghost use Rattle.node.specs.CallLaws.{are-sent};
-
-fn is_box(i: u8) -> bool
-    ensures { λ r. ⌜ r ≡ is-box i ⌝ }
-{
-    (1 <= i) & (i <= 7)
-}
-
-pub fn is_membership(me: u8, members: u8) -> bool
-    ensures { λ r. ⌜ r ≡ is-membership me members ⌝ }
-{
-    if is_box(me) {
-        return (members < 128) & holds(members, me);
-    }
-    false
-}
-
-fn is_vote(members: u8, vote: u8) -> bool
-    ensures { λ r. ⌜ r ≡ is-vote members vote ⌝ }
-{
-    if vote == 0 {
-        return true;
-    }
-    if is_box(vote) {
-        return holds(members, vote);
-    }
-    false
-}
-
-fn is_role(role: u8, term: u32, vote: u8, me: u8) -> bool
-    ensures { λ r. ⌜ r ≡ is-role role term vote me ⌝ }
-{
-    (role == 0) | ((role <= 2) & (vote == me) & (1 <= term))
-}
-
-fn are_votes(role: u8, votes: u8, members: u8, me: u8) -> bool
-    requires { ⌜ 1 ≤ me ⌝ }
-    requires { ⌜ me ≤ 7 ⌝ }
-    ensures { λ r. ⌜ r ≡ are-votes role votes members me ⌝ }
-{
-    if role == 1 {
-        return (votes & members == votes) & holds(votes, me);
-    }
-    votes == 0
-}
-
-fn is_sent(sends: bool, last: u16, next: u16, matched: u16) -> bool
-    requires { ⌜ last ≤ log-limit ⌝ }
-    ensures { λ r. ⌜ r ≡ is-sent sends last next matched ⌝ }
-{
-    if sends {
-        return (matched < next) & (next <= last + 1);
-    }
-    (next == 0) & (matched == 0)
-}
 
 fn is_sent_to(n: Node, i: u8) -> bool
     requires { ⌜ 1 ≤ i ⌝ }
@@ -82,23 +32,6 @@ fn is_sent_to(n: Node, i: u8) -> bool
         n.next[at],
         n.matched[at],
     )
-}
-
-// The entry rule over the log, from no previous entry on. It looks at every entry, with no way out early: so the compiler takes several at once.
-fn in_order(terms: &[u32], last: usize, term: u32) -> bool
-    requires { ⌜ last ≤ length (now terms) ⌝ }
-    ensures { λ r. ⌜ r ≡ in-order 0 term (entries-of (now (terms .entry)) [] 0 last) ⌝ }
-{
-    let mut ok = true;
-    let mut previous: u32 = 0;
-    let mut i = 0;
-    while i < last {
-        let t = terms[i];
-        ok = ok & (1 <= t) & (previous <= t) & (t <= term);
-        previous = t;
-        i += 1;
-    }
-    ok
 }
 
 // Next and match of all seven boxes.

@@ -1,10 +1,9 @@
 // Becoming a candidate, a leader, and a leader that has settled its commit: nowhere else is a role written.
 use crate::Node;
 use crate::commit::best;
-use crate::commit::commit_at;
-use crate::mask::bit;
-use crate::mask::is_other;
 use crate::sends::term_at;
+use rules::bit;
+use rules::is_other;
 ghost use mathlib.Core.Path.{_≡_};
 ghost use mathlib.Core.Bool.{true};
 ghost use mathlib.Core.List.{List, [], _∷_, _++_};
@@ -89,7 +88,7 @@ pub fn settled(n: Node, terms: &[u32], orders: &[u64]) -> Node
 {
     let found = best(n);
     let mut next = n;
-    next.commit = commit_at(n, found, term_at(terms, found));
+    next.commit = rules::commit_at(n.commit, n.term, found, term_at(terms, found));
     next
 }
 
@@ -118,7 +117,12 @@ pub fn ordered(n: Node, terms: &[u32], orders: &[u64]) -> Node
     longer.last = n.last + 1;
     let found = best(longer);
     let mut next = longer;
-    next.commit = commit_at(longer, found, term_after(longer, terms, found));
+    next.commit = rules::commit_at(
+        longer.commit,
+        longer.term,
+        found,
+        term_after(longer, terms, found),
+    );
     next
 }
 

@@ -2,9 +2,9 @@
 //
 // Each box has its own call, which writes one message or none and answers where the next one goes.
 use crate::Node;
-use crate::mask::is_other;
 use frames::Entry;
 use frames::Fields;
+use rules::is_other;
 ghost use mathlib.Core.Path.{_≡_};
 ghost use mathlib.Core.List.{List};
 ghost use Prim.Native.Nat.{ℕ, _+_, _-_, _≤_, _<_};

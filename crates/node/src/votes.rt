@@ -1,7 +1,6 @@
 // "Vote request" and "Vote answer", on a record that is known to be good.
 use crate::Node;
 use crate::Step;
-use crate::mask::is_majority;
 use crate::roles::adding;
 use crate::roles::leading;
 use crate::roles::settled;
@@ -10,6 +9,7 @@ use crate::sends::term_at;
 use crate::turns::answer_vote;
 use crate::turns::quiet;
 use crate::turns::send_all;
+use rules::is_majority;
 ghost use mathlib.Core.Path.{_≡_};
 ghost use mathlib.Core.Bool.{true, cond};
 ghost use mathlib.Core.List.{List};

@@ -1,2 +1,3 @@
 -- What the rules' proofs use.
+pub mod RecordLaws
 pub mod SearchLaws

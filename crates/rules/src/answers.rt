@@ -1,5 +1,7 @@
-// "Append answer", and the commit that an append brings.
+// "Append answer", and the commit that an append or the matching boxes bring.
 ghost use mathlib.Core.Path.{_≡_};
+ghost use mathlib.Core.Bool.{cond, _&&_};
+ghost use lib.Dec.{eqb, ltb};
 ghost use Prim.Native.Nat.{max, min, _≤_};
 ghost use Rattle.frames.specs.Limits.{log-limit};
 ghost use Rattle.raft.specs.Receive.{commit-after, match-after, next-heard};
@@ -49,4 +51,14 @@ pub fn next_heard(reply: u8, next: u16, matched: u16) -> u16
         return larger(next, matched + 1);
     }
     larger(next - 1, matched + 1)
+}
+
+// "the largest index above commit whose entry has the current term": the best index that a majority matches, with the term of its entry.
+pub fn commit_at(commit: u16, own: u32, found: u16, term: u32) -> u16
+    ensures { λ r. ⌜ r ≡ cond (ltb commit found && eqb term own) found commit ⌝ }
+{
+    if (commit < found) & (term == own) {
+        return found;
+    }
+    commit
 }

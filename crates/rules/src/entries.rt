@@ -4,8 +4,10 @@ use frames::Fields;
 ghost use mathlib.Core.Path.{_≡_};
 ghost use mathlib.Core.List.{List};
 ghost use Prim.Native.Nat.{ℕ, _+_, _-_, _≤_};
+ghost use lib.Dec.{ltb};
 ghost use lib.ListN.{length};
 ghost use Rattle.digits.specs.Room.{over};
+ghost use Rattle.frames.specs.Limits.{log-limit};
 ghost use Rattle.frames.specs.Fields.{listed};
 ghost use Rattle.raft.specs.Lent.{entries-of, terms-of, orders-of};
 ghost use Rattle.raft.specs.Receive.{lacks, stop};
@@ -51,6 +53,14 @@ pub fn search(
         }
         at += 1;
     }
+}
+
+// "would cut at or below commit": what is cut first stands behind the search's place.
+pub fn cuts_committed(place: usize, commit: u16) -> bool
+    requires { ⌜ place ≤ log-limit ⌝ }
+    ensures { λ r. ⌜ r ≡ ltb place commit ⌝ }
+{
+    place + 1 <= commit as usize
 }
 
 // The offered entries from one on, stored in their places behind the previous index.

@@ -1,12 +1,26 @@
-// What a box decides about a message, on the numbers and the lent log alone: each rule of 01 one small function.
+// The rules of 01 that need a few numbers or the lent log alone, each one small function: the box's crate puts them together.
 mod answers;
 mod entries;
+mod mask;
+mod record;
 mod votes;
 
 pub use answers::commit_after;
+pub use answers::commit_at;
 pub use answers::match_after;
 pub use answers::next_heard;
+pub use entries::cuts_committed;
 pub use entries::lacks;
 pub use entries::search;
 pub use entries::store;
+pub use mask::bit;
+pub use mask::holds;
+pub use mask::is_majority;
+pub use mask::is_other;
+pub use record::are_votes;
+pub use record::in_order;
+pub use record::is_membership;
+pub use record::is_role;
+pub use record::is_sent;
+pub use record::is_vote;
 pub use votes::is_granted;

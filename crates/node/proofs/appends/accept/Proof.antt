@@ -2,6 +2,7 @@
 use borrow.Author.Needs.{needs}
 use mathlib.Core.Path.{_≡_, refl, sym, ap, _∙_}
 use native.Mathlib.Omega.{arith}
+use borrow.Author.Tests.{ltb-true, ltb-false}
 use Rattle.node.specs.AppendLaws.{first-found, first-inside, accept-held, accept-alarm, accept-adds, added-node, added-log, added-kept}
 use Rattle.node.proofs.appends.accept.Statement.{statement}
 use Rattle.node.proofs.appends.accept.Tie as tie
@@ -41,8 +42,8 @@ returns c =
     let entered = c .before .before .before .before .before .before .before .before .before .before .before .before .before .before .before .before .before in
     c .before .before .before .before .answer-append .ensures (entered .args .terms .now) (entered .args .orders .now) (omega (arith, entered .pre .1 .1 .0, entered .pre .0)) (omega (arith, entered .pre .1 .1 .0, entered .pre .1 .0)) ∙ accept-held (entered .args .n) (entered .args .t) (entered .args .terms .now) (entered .args .orders .now) (entered .args .journal .now) (entered .args .room .now) (entered .pre .1 .1 .1 .1 .1 .1) (entered .args .from) (entered .args .index) (entered .args .commit) (entered .args .entries) (entered .args .count) _ (c .before .before .before .before .before .before .before .before .before .before .search .ensures .0 (entered .args .orders .now)) _ _ (c .before .before .before .before .before .before .before .before .if1 .taken) (c .before .before .before .before .before .before .before .before .before .commit-after .ensures) (c .before .before .before .before .before .before .before .following .ensures)
 
-cast-if2 : tie.Need-cast-if2
-cast-if2 c = search needs
+cuts-committed-requires : tie.Need-cuts-committed-requires
+cuts-committed-requires c κs = search needs
 
 refused-requires : tie.Need-refused-requires
 refused-requires c κs = search needs
@@ -53,7 +54,7 @@ same-length-4 c = search needs
 returns-2 : tie.Need-returns-2
 returns-2 c =
     let entered = c .before .before .before .before .before .before .before .before .before .before .before .before in
-    rw (c .refused .ensures) (accept-alarm (entered .args .n) (entered .args .t) (entered .args .terms .now) (entered .args .orders .now) (entered .args .journal .now) (entered .args .room .now) (entered .pre .1 .1 .1 .1 .1 .1) (entered .args .from) (entered .args .index) (entered .args .commit) (entered .args .entries) (entered .args .count) _ (c .before .before .before .before .before .search .ensures .0 (entered .args .orders .now)) (λ p. c .before .before .before .if1 .left p) (c .before .if2 .taken))
+    rw (c .refused .ensures) (accept-alarm (entered .args .n) (entered .args .t) (entered .args .terms .now) (entered .args .orders .now) (entered .args .journal .now) (entered .args .room .now) (entered .pre .1 .1 .1 .1 .1 .1) (entered .args .from) (entered .args .index) (entered .args .commit) (entered .args .entries) (entered .args .count) _ (c .before .before .before .before .before .search .ensures .0 (entered .args .orders .now)) (λ p. c .before .before .before .if1 .left p) (ltb-true _ _ (sym (c .before .before .cuts-committed .ensures) ∙ c .before .if2 .taken)))
 
 following-requires-2 : tie.Need-following-requires-2
 following-requires-2 c κs = search needs
@@ -86,7 +87,7 @@ same-length-8 c = search needs
 returns-3 : tie.Need-returns-3
 returns-3 c =
     let entered = c .before .before .before .before .before .before .before .before .before .before .before .before .before .before .before .before .before .before .before .before .before .before .before .before .before in
-    c .before .before .before .before .before .before .before .before .add .ensures _ (added-node (entered .args .n) (entered .args .t) (entered .args .terms .now) (entered .args .orders .now) (entered .args .journal .now) (entered .args .room .now) (entered .pre .1 .1 .1 .1 .1 .1) (entered .args .from) (entered .args .index) (entered .args .commit) (entered .args .entries) (entered .args .count) _ (c .before .before .before .before .before .before .before .before .before .before .before .before .before .before .before .before .before .before .search .ensures .0 (entered .args .orders .now)) (λ p. c .before .before .before .before .before .before .before .before .before .before .before .before .before .before .before .before .if1 .left p) (entered .pre .1 .1 .1 .1 .1 .0) _ _ (c .before .before .before .before .before .before .before .before .before .before .before .before .before .before .before .before .before .commit-after .ensures) (c .before .before .before .before .before .before .before .before .before .before .before .before .before .following2 .ensures)) (added-log (entered .args .n) (entered .args .t) (entered .args .terms .now) (entered .args .orders .now) (entered .args .journal .now) (entered .args .room .now) (entered .pre .1 .1 .1 .1 .1 .1) (entered .args .from) (entered .args .index) (entered .args .commit) (entered .args .entries) (entered .args .count) _ (c .before .before .before .before .before .before .before .before .before .before .before .before .before .before .before .before .before .before .search .ensures .0 (entered .args .orders .now)) (λ p. c .before .before .before .before .before .before .before .before .before .before .before .before .before .before .before .before .if1 .left p) (entered .pre .1 .1 .1 .1 .1 .0)) (added-kept (entered .args .n) (entered .args .t) (entered .args .terms .now) (entered .args .orders .now) (entered .args .journal .now) (entered .args .room .now) (entered .pre .1 .1 .1 .1 .1 .1) (entered .args .from) (entered .args .index) (entered .args .commit) (entered .args .entries) (entered .args .count) _ (c .before .before .before .before .before .before .before .before .before .before .before .before .before .before .before .before .before .before .search .ensures .0 (entered .args .orders .now)) (λ p. c .before .before .before .before .before .before .before .before .before .before .before .before .before .before .before .before .if1 .left p) (entered .pre .1 .1 .1 .1 .1 .0)) ∙ accept-adds (entered .args .n) (entered .args .t) (entered .args .terms .now) (entered .args .orders .now) (entered .args .journal .now) (entered .args .room .now) (entered .pre .1 .1 .1 .1 .1 .1) (entered .args .from) (entered .args .index) (entered .args .commit) (entered .args .entries) (entered .args .count) _ (c .before .before .before .before .before .before .before .before .before .before .before .before .before .before .before .before .before .before .search .ensures .0 (entered .args .orders .now)) (λ p. c .before .before .before .before .before .before .before .before .before .before .before .before .before .before .before .before .if1 .left p) (entered .pre .1 .1 .1 .1 .1 .0) (c .before .before .before .before .before .before .before .before .before .before .before .before .before .before .if2 .left)
+    c .before .before .before .before .before .before .before .before .add .ensures _ (added-node (entered .args .n) (entered .args .t) (entered .args .terms .now) (entered .args .orders .now) (entered .args .journal .now) (entered .args .room .now) (entered .pre .1 .1 .1 .1 .1 .1) (entered .args .from) (entered .args .index) (entered .args .commit) (entered .args .entries) (entered .args .count) _ (c .before .before .before .before .before .before .before .before .before .before .before .before .before .before .before .before .before .before .search .ensures .0 (entered .args .orders .now)) (λ p. c .before .before .before .before .before .before .before .before .before .before .before .before .before .before .before .before .if1 .left p) (entered .pre .1 .1 .1 .1 .1 .0) _ _ (c .before .before .before .before .before .before .before .before .before .before .before .before .before .before .before .before .before .commit-after .ensures) (c .before .before .before .before .before .before .before .before .before .before .before .before .before .following2 .ensures)) (added-log (entered .args .n) (entered .args .t) (entered .args .terms .now) (entered .args .orders .now) (entered .args .journal .now) (entered .args .room .now) (entered .pre .1 .1 .1 .1 .1 .1) (entered .args .from) (entered .args .index) (entered .args .commit) (entered .args .entries) (entered .args .count) _ (c .before .before .before .before .before .before .before .before .before .before .before .before .before .before .before .before .before .before .search .ensures .0 (entered .args .orders .now)) (λ p. c .before .before .before .before .before .before .before .before .before .before .before .before .before .before .before .before .if1 .left p) (entered .pre .1 .1 .1 .1 .1 .0)) (added-kept (entered .args .n) (entered .args .t) (entered .args .terms .now) (entered .args .orders .now) (entered .args .journal .now) (entered .args .room .now) (entered .pre .1 .1 .1 .1 .1 .1) (entered .args .from) (entered .args .index) (entered .args .commit) (entered .args .entries) (entered .args .count) _ (c .before .before .before .before .before .before .before .before .before .before .before .before .before .before .before .before .before .before .search .ensures .0 (entered .args .orders .now)) (λ p. c .before .before .before .before .before .before .before .before .before .before .before .before .before .before .before .before .if1 .left p) (entered .pre .1 .1 .1 .1 .1 .0)) ∙ accept-adds (entered .args .n) (entered .args .t) (entered .args .terms .now) (entered .args .orders .now) (entered .args .journal .now) (entered .args .room .now) (entered .pre .1 .1 .1 .1 .1 .1) (entered .args .from) (entered .args .index) (entered .args .commit) (entered .args .entries) (entered .args .count) _ (c .before .before .before .before .before .before .before .before .before .before .before .before .before .before .before .before .before .before .search .ensures .0 (entered .args .orders .now)) (λ p. c .before .before .before .before .before .before .before .before .before .before .before .before .before .before .before .before .if1 .left p) (entered .pre .1 .1 .1 .1 .1 .0) (ltb-false _ _ (sym (c .before .before .before .before .before .before .before .before .before .before .before .before .before .before .before .cuts-committed .ensures) ∙ c .before .before .before .before .before .before .before .before .before .before .before .before .before .before .if2 .left))
 
 pub accept-spec : {M : Type 1} → statement M
 accept-spec =
@@ -103,7 +104,7 @@ accept-spec =
     same-length-2
     same-length-3
     returns
-    cast-if2
+    cuts-committed-requires
     refused-requires
     same-length-4
     returns-2

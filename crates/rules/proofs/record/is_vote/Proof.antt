@@ -4,8 +4,8 @@ use mathlib.Core.Path.{ap, sym, _∙_}
 use borrow.Author.Tests.{eq-eqb, ne-eqb}
 use Rattle.raft.specs.Record.{is-vote}
 use Rattle.raft.specs.RecordLaws.{box-range}
-use Rattle.node.proofs.record.is_vote.Statement.{statement}
-use Rattle.node.proofs.record.is_vote.Tie as tie
+use Rattle.rules.proofs.record.is_vote.Statement.{statement}
+use Rattle.rules.proofs.record.is_vote.Tie as tie
 
 returns : tie.Need-returns
 unfolding is-vote

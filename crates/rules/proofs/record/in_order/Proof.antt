@@ -6,10 +6,10 @@ use mathlib.Core.Path.{_≡_, refl, ap, sym, _∙_}
 use mathlib.Core.List.{[]}
 use lib.Dec.{leb·zero}
 use Rattle.frames.specs.Rules.{in-order}
-use Rattle.node.specs.Calls.{entries-of}
-use Rattle.node.specs.CallLaws.{final, order-next, final-next}
-use Rattle.node.proofs.record.in_order.Statement.{statement}
-use Rattle.node.proofs.record.in_order.Tie as tie
+use Rattle.raft.specs.Lent.{entries-of}
+use Rattle.rules.specs.RecordLaws.{final, order-next, final-next}
+use Rattle.rules.proofs.record.in_order.Statement.{statement}
+use Rattle.rules.proofs.record.in_order.Tie as tie
 
 abbrev Inv-loop : tie.InvT-loop
 Inv-loop terms last term ok₀ previous₀ i₀ ok previous i = (i ≤ last) × (previous ≡ final 0 (entries-of terms [] 0 i)) × (ok ≡ in-order 0 term (entries-of terms [] 0 i))

@@ -1,8 +1,8 @@
 -- The test is the definition's own.
 use borrow.Author.Needs.{needs}
 use Rattle.raft.specs.Record.{is-sent}
-use Rattle.node.proofs.record.is_sent.Statement.{statement}
-use Rattle.node.proofs.record.is_sent.Tie as tie
+use Rattle.rules.proofs.record.is_sent.Statement.{statement}
+use Rattle.rules.proofs.record.is_sent.Tie as tie
 
 add-result : tie.Need-add-result
 add-result c = search needs

@@ -2,8 +2,8 @@
 use borrow.Author.Needs.{needs}
 use borrow.Author.Tests.{eq-eqb, ne-eqb}
 use Rattle.raft.specs.Record.{are-votes}
-use Rattle.node.proofs.record.are_votes.Statement.{statement}
-use Rattle.node.proofs.record.are_votes.Tie as tie
+use Rattle.rules.proofs.record.are_votes.Statement.{statement}
+use Rattle.rules.proofs.record.are_votes.Tie as tie
 
 holds-requires : tie.Need-holds-requires
 holds-requires c κs = search needs

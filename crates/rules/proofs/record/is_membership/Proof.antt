@@ -3,8 +3,8 @@ use borrow.Author.Needs.{needs}
 use mathlib.Core.Path.{ap, sym, _∙_}
 use Rattle.raft.specs.Record.{is-membership}
 use Rattle.raft.specs.RecordLaws.{box-range}
-use Rattle.node.proofs.record.is_membership.Statement.{statement}
-use Rattle.node.proofs.record.is_membership.Tie as tie
+use Rattle.rules.proofs.record.is_membership.Statement.{statement}
+use Rattle.rules.proofs.record.is_membership.Tie as tie
 
 is-box-requires : tie.Need-is-box-requires
 is-box-requires c κs = search needs

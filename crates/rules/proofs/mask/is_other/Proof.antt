@@ -2,8 +2,8 @@
 use borrow.Author.Needs.{needs}
 use borrow.Author.Tests.{eq-eqb, ne-eqb}
 use Rattle.raft.specs.Record.{is-other}
-use Rattle.node.proofs.mask.is_other.Statement.{statement}
-use Rattle.node.proofs.mask.is_other.Tie as tie
+use Rattle.rules.proofs.mask.is_other.Statement.{statement}
+use Rattle.rules.proofs.mask.is_other.Tie as tie
 
 returns : tie.Need-returns
 unfolding is-other

@@ -4,8 +4,8 @@ use mathlib.Core.Path.{refl}
 use lib.Bits.{bitAnd, and-lt}
 use lib.Count.{ones-le}
 use Rattle.raft.specs.Majority.{majority}
-use Rattle.node.proofs.mask.is_majority.Statement.{statement}
-use Rattle.node.proofs.mask.is_majority.Tie as tie
+use Rattle.rules.proofs.mask.is_majority.Statement.{statement}
+use Rattle.rules.proofs.mask.is_majority.Tie as tie
 
 mul-result : tie.Need-mul-result
 mul-result c = omega (arith, ones-le 8 (bitAnd (c .args .agreed) (c .args .members)) (and-lt 8 _ _ (c .fits .agreed .fits) (c .fits .members .fits)))

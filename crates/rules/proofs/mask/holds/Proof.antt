@@ -2,8 +2,8 @@
 use borrow.Author.Needs.{needs}
 use mathlib.Core.Path.{refl}
 use Rattle.raft.specs.Majority.{holds}
-use Rattle.node.proofs.mask.holds.Statement.{statement}
-use Rattle.node.proofs.mask.holds.Tie as tie
+use Rattle.rules.proofs.mask.holds.Statement.{statement}
+use Rattle.rules.proofs.mask.holds.Tie as tie
 
 sub-result : tie.Need-sub-result
 sub-result c = search needs

@@ -1,9 +1,9 @@
 -- A shift of 1 is the power of 2 (`bit-shift`).
 use borrow.Author.Needs.{needs}
 use native.Mathlib.Omega.{arith}
-use Rattle.node.specs.CallLaws.{bit-shift}
-use Rattle.node.proofs.mask.bit.Statement.{statement}
-use Rattle.node.proofs.mask.bit.Tie as tie
+use Rattle.rules.specs.RecordLaws.{bit-shift}
+use Rattle.rules.proofs.mask.bit.Statement.{statement}
+use Rattle.rules.proofs.mask.bit.Tie as tie
 
 sub-result : tie.Need-sub-result
 sub-result c = search needs

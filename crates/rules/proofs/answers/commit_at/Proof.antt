@@ -1,6 +1,6 @@
 -- The definition's own tests.
-use Rattle.node.proofs.commit.commit_at.Statement.{statement}
-use Rattle.node.proofs.commit.commit_at.Tie as tie
+use Rattle.rules.proofs.answers.commit_at.Statement.{statement}
+use Rattle.rules.proofs.answers.commit_at.Tie as tie
 
 returns : tie.Need-returns
 returns c = rw (c .if1 .taken)

@@ -1,0 +1,81 @@
+// The record's rules that look at a few numbers or at the lent terms alone, in 01's order.
+use crate::mask::holds;
+ghost use mathlib.Core.Path.{_≡_};
+ghost use mathlib.Core.List.{[]};
+ghost use Prim.Native.Nat.{_≤_};
+ghost use lib.ListN.{length};
+ghost use Rattle.frames.specs.Limits.{log-limit};
+ghost use Rattle.frames.specs.Rules.{is-box, in-order};
+ghost use Rattle.raft.specs.Record.{is-membership, is-vote, is-role, are-votes, is-sent};
+ghost use Rattle.raft.specs.Lent.{entries-of};
+
+fn is_box(i: u8) -> bool
+    ensures { λ r. ⌜ r ≡ is-box i ⌝ }
+{
+    (1 <= i) & (i <= 7)
+}
+
+pub fn is_membership(me: u8, members: u8) -> bool
+    ensures { λ r. ⌜ r ≡ is-membership me members ⌝ }
+{
+    if is_box(me) {
+        return (members < 128) & holds(members, me);
+    }
+    false
+}
+
+pub fn is_vote(members: u8, vote: u8) -> bool
+    ensures { λ r. ⌜ r ≡ is-vote members vote ⌝ }
+{
+    if vote == 0 {
+        return true;
+    }
+    if is_box(vote) {
+        return holds(members, vote);
+    }
+    false
+}
+
+pub fn is_role(role: u8, term: u32, vote: u8, me: u8) -> bool
+    ensures { λ r. ⌜ r ≡ is-role role term vote me ⌝ }
+{
+    (role == 0) | ((role <= 2) & (vote == me) & (1 <= term))
+}
+
+pub fn are_votes(role: u8, votes: u8, members: u8, me: u8) -> bool
+    requires { ⌜ 1 ≤ me ⌝ }
+    requires { ⌜ me ≤ 7 ⌝ }
+    ensures { λ r. ⌜ r ≡ are-votes role votes members me ⌝ }
+{
+    if role == 1 {
+        return (votes & members == votes) & holds(votes, me);
+    }
+    votes == 0
+}
+
+pub fn is_sent(sends: bool, last: u16, next: u16, matched: u16) -> bool
+    requires { ⌜ last ≤ log-limit ⌝ }
+    ensures { λ r. ⌜ r ≡ is-sent sends last next matched ⌝ }
+{
+    if sends {
+        return (matched < next) & (next <= last + 1);
+    }
+    (next == 0) & (matched == 0)
+}
+
+// The entry rule over the log, from no previous entry on. It looks at every entry, with no way out early: so the compiler takes several at once.
+pub fn in_order(terms: &[u32], last: usize, term: u32) -> bool
+    requires { ⌜ last ≤ length (now terms) ⌝ }
+    ensures { λ r. ⌜ r ≡ in-order 0 term (entries-of (now (terms .entry)) [] 0 last) ⌝ }
+{
+    let mut ok = true;
+    let mut previous: u32 = 0;
+    let mut i = 0;
+    while i < last {
+        let t = terms[i];
+        ok = ok & (1 <= t) & (previous <= t) & (t <= term);
+        previous = t;
+        i += 1;
+    }
+    ok
+}
