@@ -184,7 +184,7 @@ entry-past s at (suc n) (suc i) h = entry-past s (at + 24) n i (omega arith)
 -- ---- the struct of a message tells that message
 
 -- up to four entries are those of their places
-listed-places : (es : List Entry) → length es ≤ 4 → listed (places es) 0 (length es) ≡ es
+pub listed-places : (es : List Entry) → length es ≤ 4 → listed (places es) 0 (length es) ≡ es
 unfolding listed
 listed-places [] h = refl
 listed-places (a ∷ []) h = refl

@@ -68,13 +68,13 @@ stands-sized (f ∷ fs) at s h t =
 -- ---- over entries
 
 -- the entries that are read at a place stand there
-read-entries : (s : List ℕ) (at n : ℕ) → stands (entry-fields (entries-at s at n)) at s
+pub read-entries : (s : List ℕ) (at n : ℕ) → stands (entry-fields (entries-at s at n)) at s
 unfolding entries-at entry-at entry-fields stands
 read-entries s at zero = tt
 read-entries s at (suc n) = (refl, (refl, rw (add-assoc at 8 16) (read-entries s (at + 24) n)))
 
 -- and those that stand there are read
-entries-read : (es : List Entry) (at : ℕ) (s : List ℕ) → stands (entry-fields es) at s → entries-at s at (length es) ≡ es
+pub entries-read : (es : List Entry) (at : ℕ) (s : List ℕ) → stands (entry-fields es) at s → entries-at s at (length es) ≡ es
 unfolding entries-at entry-at entry-fields stands
 entries-read [] at s t = refl
 entries-read (e ∷ es) at s t =

@@ -3,11 +3,15 @@ mod reader;
 mod rules;
 mod writer;
 
+pub use reader::entries;
+pub use reader::is_line;
 pub use reader::read;
-pub use writer::put_append;
+pub use rules::in_order;
 pub use writer::put_append_answer;
+pub use writer::put_append_start;
 pub use writer::put_end;
 pub use writer::put_entries;
+pub use writer::put_entry;
 pub use writer::put_vote_answer;
 pub use writer::put_vote_request;
 pub use writer::write;

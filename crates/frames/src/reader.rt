@@ -34,7 +34,7 @@ pub fn text_size(bytes: usize) -> usize
 }
 
 // Digits, ended by one line feed, and nothing after it.
-fn is_line(s: &[u8]) -> bool
+pub fn is_line(s: &[u8]) -> bool
     ensures { λ r. ⌜ r ≡ reading.is-line (now (s .entry)) ⌝ }
 {
     if s.len() == 0 {
@@ -163,13 +163,14 @@ fn append_answer(s: &[u8]) -> Fields
 }
 
 // The entry at a place of the four: what stands there, or none past the count.
-fn entry(s: &[u8], at: usize, count: u8) -> Entry
+fn entry(s: &[u8], from: usize, at: usize, count: u8) -> Entry
     requires { ⌜ at < 4 ⌝ }
-    requires { ⌜ 34 + 24 * count ≤ run (now s) ⌝ }
-    ensures { λ r. ⌜ r ≡ getD (reading.entries-at (now (s .entry)) 34 count) at no-entry ⌝ }
+    requires { ⌜ from ≤ 34 ⌝ }
+    requires { ⌜ from + 24 * count ≤ run (now s) ⌝ }
+    ensures { λ r. ⌜ r ≡ getD (reading.entries-at (now (s .entry)) from count) at no-entry ⌝ }
 {
     if at < count as usize {
-        let place = 34 + 24 * at;
+        let place = from + 24 * at;
         return Entry {
             term: digits::get_u32(s, place),
             order: digits::get_u64(s, place + 8),
@@ -178,14 +179,16 @@ fn entry(s: &[u8], at: usize, count: u8) -> Entry
     Entry { term: 0, order: 0 }
 }
 
-fn entries(s: &[u8], count: u8) -> [Entry; Fields::ENTRIES]
-    requires { ⌜ 34 + 24 * count ≤ run (now s) ⌝ }
-    ensures { λ r. ⌜ r ≡ places (reading.entries-at (now (s .entry)) 34 count) ⌝ }
+// So many entries from a place of the text on. (An inside call: the journal's lines are read by it too.)
+pub fn entries(s: &[u8], from: usize, count: u8) -> [Entry; Fields::ENTRIES]
+    requires { ⌜ from ≤ 34 ⌝ }
+    requires { ⌜ from + 24 * count ≤ run (now s) ⌝ }
+    ensures { λ r. ⌜ r ≡ places (reading.entries-at (now (s .entry)) from count) ⌝ }
 {
-    let a = entry(s, 0, count);
-    let b = entry(s, 1, count);
-    let c = entry(s, 2, count);
-    let d = entry(s, 3, count);
+    let a = entry(s, from, 0, count);
+    let b = entry(s, from, 1, count);
+    let c = entry(s, from, 2, count);
+    let d = entry(s, from, 3, count);
     [a, b, c, d]
 }
 
@@ -194,7 +197,7 @@ fn append(s: &[u8]) -> Fields
     ensures { λ r. ⌜ r ≡ fields-of (reading.append-in (now (s .entry))) ⌝ }
 {
     let count = digits::get_u8(s, 32);
-    let entries = entries(s, count);
+    let entries = entries(s, 34, count);
     Fields {
         kind: 3,
         from: digits::get_u8(s, 4),

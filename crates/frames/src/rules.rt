@@ -46,8 +46,8 @@ fn follows(last: u32, term: u32, next: u32) -> bool
     (last <= term) & (1 <= next) & (last <= next)
 }
 
-// The entry rule over the first count entries.
-fn in_order(entries: [Entry; Fields::ENTRIES], count: usize, previous: u32, term: u32) -> bool
+// The entry rule over the first count entries. (An inside call: the journal's lines have the same rule.)
+pub fn in_order(entries: [Entry; Fields::ENTRIES], count: usize, previous: u32, term: u32) -> bool
     requires { ⌜ count ≤ 4 ⌝ }
     ensures { λ r. ⌜ r ≡ in-order previous term (listed entries 0 count) ⌝ }
 {

@@ -65,13 +65,13 @@ pub fn put_append_answer(room: &mut [u8], from: u8, to: u8, term: u32, reply: u8
     put_end(room, 22);
 }
 
-// "entries of 12": the term and the order.
-fn put_entry(room: &mut [u8], at: usize, e: Entry)
+// "entries of 12": the term and the order. (An inside call: who sends a lent log's entries writes each from where it lies.)
+pub fn put_entry(room: &mut [u8], at: usize, term: u32, order: u64)
     requires { ⌜ at + 24 ≤ length (now room) ⌝ }
-    ensures { λ _. ⌜ now (room .exit) ≡ over (now (room .entry)) at (spell (entry-fields (e ∷ []))) ⌝ }
+    ensures { λ _. ⌜ now (room .exit) ≡ over (now (room .entry)) at (spell (entry-fields (record { term = term; order = order } ∷ []))) ⌝ }
 {
-    digits::put_u32(room, at, e.term);
-    digits::put_u64(room, at + 8, e.order);
+    digits::put_u32(room, at, term);
+    digits::put_u64(room, at + 8, order);
 }
 
 // So many entries, one behind the other, from a place on. (An inside call: the journal's lines use it too.)
@@ -83,13 +83,13 @@ pub fn put_entries(room: &mut [u8], at: usize, entries: [Entry; Fields::ENTRIES]
     let mut i = 0;
     while i < count {
         let e = entries[i];
-        put_entry(room, at + 24 * i, e);
+        put_entry(room, at + 24 * i, e.term, e.order);
         i += 1;
     }
 }
 
-// The fixed fields of an append, up to its count.
-fn put_append_start(
+// The fixed fields of an append, up to its count. (An inside call.)
+pub fn put_append_start(
     room: &mut [u8],
     from: u8,
     to: u8,
@@ -109,7 +109,7 @@ fn put_append_start(
     digits::put_u8(room, 32, count);
 }
 
-pub fn put_append(
+fn put_append(
     room: &mut [u8],
     from: u8,
     to: u8,

@@ -14,16 +14,16 @@ use Rattle.digits.specs.Room.{over}
 use Rattle.digits.specs.RoomLaws.{over-over}
 pub use Rattle.digits.specs.RoomLaws.{over-nothing}
 use Rattle.frames.specs.declared.Entry.{Entry}
-use Rattle.frames.specs.Message.{Message, vote-request, append, text}
+use Rattle.frames.specs.Message.{Message, vote-request, append, entry-fields, spell, text}
 use Rattle.frames.specs.Reading.{size, text-size}
 use Rattle.frames.specs.Fields.{no-entry, listed}
-use Rattle.frames.specs.WritingLaws.{length-text}
+use Rattle.frames.specs.WritingLaws.{length-text, chars, chars-entries, entry-fields-append, put-more}
 use Rattle.node.specs.declared.Node.{Node}
 use Rattle.raft.specs.Record.{State, last-index, term-at, of-box, is-other}
 use Rattle.raft.specs.Sends.{append-to, append-after, to-others, texts, vote-requests, appends, vote-request-to}
 use Rattle.node.specs.SendSizes.{only, request, size-if, requests-size, entry-count, append-size, appends-size, slot}
 use Rattle.node.specs.Calls.{entries-of, state-of, bare}
-use Rattle.node.specs.CallLaws.{length-entries-of}
+use Rattle.node.specs.CallLaws.{length-entries-of, entries-more}
 pub use Rattle.raft.specs.LentLaws.{entry-of, term-there, term-none, drop-entries, take-entries}
 
 -- ---- texts
@@ -194,6 +194,28 @@ over-none d at = over-nothing d at
 
 -- ---- the entries of an append
 
+-- an append carries the lent log's entries from a place on
+carried : (terms orders : List ℕ) (p last : ℕ) → entries-of terms orders p (entry-count last p) ≡ take 4 (drop p (entries-of terms orders 0 last))
+carried terms orders p last = sym (rw (drop-entries terms orders 0 last p, zero-add, take-entries terms orders p (last - p) 4))
+
+-- their characters
+pub chars-logged : (terms orders : List ℕ) (p n : ℕ) → chars (entry-fields (entries-of terms orders p n)) ≡ 24 * n
+chars-logged terms orders p n = rw (chars-entries, length-entries-of terms orders p n)
+
+-- the entries up to a place are written: then the next
+pub put-logged-next : (d : List ℕ) {d₁ d₂ : List ℕ} (at : ℕ) (terms orders : List ℕ) (p n : ℕ) → at + 24 * n + 24 ≤ length d
+    → d₁ ≡ over d at (spell (entry-fields (entries-of terms orders p n)))
+    → d₂ ≡ over d₁ (at + 24 * n) (spell (entry-fields (record { term = getD terms (p + n) 0; order = getD orders (p + n) 0 } ∷ [])))
+    → d₂ ≡ over d at (spell (entry-fields (entries-of terms orders p (n + 1))))
+put-logged-next d {d₁} at terms orders p n h e f =
+    rw (add-one n, entries-more terms orders p n, entry-fields-append (entries-of terms orders p n) (next ∷ []))
+    (put-more d at (entry-fields (entries-of terms orders p n)) (entry-fields (next ∷ []))
+    (omega (arith, chars-logged terms orders p n, chars-entries (next ∷ [])))
+    e (f ∙ ap (λ (k : ℕ). over d₁ (at + k) (spell (entry-fields (next ∷ [])))) (sym (chars-logged terms orders p n))))
+  where
+    next : Entry
+    next = record { term = getD terms (p + n) 0; order = getD orders (p + n) 0 }
+
 slot-there : (terms orders : List ℕ) (at last : ℕ) → at < last → slot terms orders at last ≡ record { term = getD terms at 0; order = getD orders at 0 }
 unfolding slot
 slot-there terms orders at last h = rw (lt-ltb at last h)
@@ -232,13 +254,13 @@ module _ (terms orders : List ℕ) (p last : ℕ) where
   pub slots-listed : p ≤ last → listed slots 0 (entry-count last p) ≡ take 4 (drop p (entries-of terms orders 0 last))
   slots-listed h =
       slots-are (entry-count last p) (omega arith) (omega arith)
-      ∙ sym (rw (drop-entries terms orders 0 last p, zero-add, take-entries terms orders p (last - p) 4))
+      ∙ carried terms orders p last
 
 -- what the code writes is the append
-pub tells : (b : Node) (terms orders : List ℕ) (i p t k : ℕ) (es : List Entry) → p ≤ b .last → p ≡ of-box (b .next) i - 1
-    → t ≡ term-at (entries-of terms orders 0 (b .last)) p → k ≡ entry-count (b .last) p → es ≡ slots terms orders p (b .last)
-    → append (b .me) i (b .term) p t (b .commit) (listed es 0 k) ≡ append-to (state-of b terms orders) i
-tells b terms orders i p t k es l e f g h = rw (h, g, f, slots-listed terms orders p (b .last) l, e)
+pub tells : (b : Node) (terms orders : List ℕ) (i p t k : ℕ) → p ≡ of-box (b .next) i - 1
+    → t ≡ term-at (entries-of terms orders 0 (b .last)) p → k ≡ entry-count (b .last) p
+    → append (b .me) i (b .term) p t (b .commit) (entries-of terms orders p k) ≡ append-to (state-of b terms orders) i
+tells b terms orders i p t k e f g = rw (g, f, carried terms orders p (b .last), e)
 
 -- and how long it is
 pub tells-long : (b : Node) (terms orders : List ℕ) (i p k : ℕ) → p ≡ of-box (b .next) i - 1 → k ≡ entry-count (b .last) p

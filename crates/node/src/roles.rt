@@ -1,9 +1,9 @@
 // Becoming a candidate, a leader, and a leader that has settled its commit: nowhere else is a role written.
 use crate::Node;
 use crate::commit::best;
-use crate::sends::term_at;
 use rules::bit;
 use rules::is_other;
+use rules::term_at;
 ghost use mathlib.Core.Path.{_≡_};
 ghost use mathlib.Core.Bool.{true};
 ghost use mathlib.Core.List.{List, [], _∷_, _++_};

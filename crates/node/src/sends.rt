@@ -5,27 +5,18 @@ use crate::Node;
 use frames::Entry;
 use frames::Fields;
 use rules::is_other;
+use rules::term_at;
 ghost use mathlib.Core.Path.{_≡_};
 ghost use mathlib.Core.List.{List};
-ghost use Prim.Native.Nat.{ℕ, _+_, _-_, _≤_, _<_};
+ghost use Prim.Native.Nat.{ℕ, _+_, _-_, _*_, _≤_, _<_};
 ghost use lib.ListN.{length, getD};
 ghost use Rattle.digits.specs.Room.{over};
-ghost use Rattle.raft.specs.Record.{term-at, of-box};
+ghost use Rattle.frames.specs.Message.{append, entry-fields, spell, text};
+ghost use Rattle.raft.specs.Record.{of-box};
 ghost use Rattle.raft.specs.Sends.{append-to, to-others, texts, appends};
 ghost use Rattle.node.specs.Calls.{entries-of, state-of, bare};
 ghost use Rattle.node.specs.SendSizes.{slot, request, only, size-if, requests-size, entry-count, append-size, appends-size, Sendable};
 ghost use Rattle.node.specs.SizeLaws.{slots};
-
-// The term of the entry at an index, 0 at the start.
-pub fn term_at(terms: &[u32], index: u16) -> u32
-    requires { ⌜ index ≤ length (now terms) ⌝ }
-    ensures { λ r. ⌜ ((orders : List ℕ) (last : ℕ) → index ≤ last → r ≡ term-at (entries-of (now (terms .entry)) orders 0 last) index) ⌝ }
-{
-    if index == 0 {
-        return 0;
-    }
-    terms[(index - 1) as usize]
-}
 
 // ---- vote requests
 
@@ -167,6 +158,44 @@ pub fn slots(terms: &[u32], orders: &[u64], at: usize, last: usize) -> [Entry; F
     [a, b, c, d]
 }
 
+// So many entries of the lent log from a place of it on, one behind the other. Each is written from where it lies: an array of them would be
+// filled and then copied, and such a copy waits until all that was written before it is in memory.
+fn put_logged(room: &mut [u8], at: usize, terms: &[u32], orders: &[u64], from: usize, count: usize)
+    requires { ⌜ from + count ≤ length (now terms) ⌝ }
+    requires { ⌜ from + count ≤ length (now orders) ⌝ }
+    requires { ⌜ at + 24 * count ≤ length (now room) ⌝ }
+    ensures { λ _. ⌜ now (room .exit) ≡ over (now (room .entry)) at (spell (entry-fields (entries-of (now (terms .entry)) (now (orders .entry)) from count))) ⌝ }
+{
+    let mut i = 0;
+    while i < count {
+        frames::put_entry(room, at + 24 * i, terms[from + i], orders[from + i]);
+        i += 1;
+    }
+}
+
+// An append whose entries stand in the lent log behind the previous index.
+fn put_append_from(
+    room: &mut [u8],
+    from: u8,
+    to: u8,
+    term: u32,
+    index: u16,
+    prior: u32,
+    commit: u16,
+    count: u8,
+    terms: &[u32],
+    orders: &[u64],
+)
+    requires { ⌜ index + count ≤ length (now terms) ⌝ }
+    requires { ⌜ index + count ≤ length (now orders) ⌝ }
+    requires { ⌜ 35 + 24 * count ≤ length (now room) ⌝ }
+    ensures { λ _. ⌜ now (room .exit) ≡ over (now (room .entry)) 0 (text (append from to term index prior commit (entries-of (now (terms .entry)) (now (orders .entry)) index count))) ⌝ }
+{
+    frames::put_append_start(room, from, to, term, index, prior, commit, count);
+    put_logged(room, 34, terms, orders, index as usize, count as usize);
+    frames::put_end(room, 34 + 24 * count as usize);
+}
+
 pub fn put_append(
     room: &mut [u8],
     at: usize,
@@ -188,8 +217,7 @@ pub fn put_append(
     let p = previous(n, i);
     let count = entry_count(n.last, p);
     let prior = term_at(terms, p);
-    let entries = slots(terms, orders, p as usize, n.last as usize);
-    frames::put_append(
+    put_append_from(
         &mut room[at..],
         n.me,
         i,
@@ -198,7 +226,8 @@ pub fn put_append(
         prior,
         n.commit,
         count,
-        entries,
+        terms,
+        orders,
     );
     at + (35 + 24 * count as usize)
 }

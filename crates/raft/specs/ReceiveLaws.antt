@@ -395,7 +395,7 @@ in-order-front previous term e es more h next =
     facts-follow previous term e more (record { above = f .above; least = f .least; rising = f .rising; rest = next (f .rest) })
 
 -- so behind the first entries of a log,
-in-order-behind : (term : ℕ) (log : List Entry) (n : ℕ) (more : List Entry) → n ≤ length log → in-order 0 term log ≡ true
+pub in-order-behind : (term : ℕ) (log : List Entry) (n : ℕ) (more : List Entry) → n ≤ length log → in-order 0 term log ≡ true
     → in-order (term-at log n) term more ≡ true → in-order 0 term (take n log ++ more) ≡ true
 unfolding term-at
 in-order-behind term log zero more l p q = q

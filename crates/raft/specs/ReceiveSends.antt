@@ -87,7 +87,7 @@ term-sized (append from to term index prior commit es) z = z .1 .1 .1 .1 .0
 term-sized (append-answer from to term said index) z = z .1 .1 .1 .1 .0
 
 -- and so the orders of entries that fit their fields are 8
-orders-sized : (es : List Entry) → sized (entry-fields es) → All eight-bytes es
+pub orders-sized : (es : List Entry) → sized (entry-fields es) → All eight-bytes es
 unfolding sized entry-fields All
 orders-sized [] z = tt
 orders-sized (e ∷ es) z = (z .1 .0, orders-sized es (z .1 .1))
@@ -101,7 +101,7 @@ append-orders from to term index prior commit es z = orders-sized es (z .1 .1 .1
 -- ---- the next record fits
 
 -- what holds of each part of two lists holds of each part of both
-all-both : {A : Type 0} (P : A → Type 0) (xs ys : List A) → All P xs → All P ys → All P (xs ++ ys)
+pub all-both : {A : Type 0} (P : A → Type 0) (xs ys : List A) → All P xs → All P ys → All P (xs ++ ys)
 unfolding All
 all-both P [] ys a b = b
 all-both P (x ∷ xs) ys a b = (a .0, all-both P xs ys (a .1) b)

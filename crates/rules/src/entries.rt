@@ -9,8 +9,20 @@ ghost use lib.ListN.{length};
 ghost use Rattle.digits.specs.Room.{over};
 ghost use Rattle.frames.specs.Limits.{log-limit};
 ghost use Rattle.frames.specs.Fields.{listed};
+ghost use Rattle.raft.specs.Record.{term-at};
 ghost use Rattle.raft.specs.Lent.{entries-of, terms-of, orders-of};
 ghost use Rattle.raft.specs.Receive.{lacks, stop};
+
+// The term of the entry at an index, 0 at the start.
+pub fn term_at(terms: &[u32], index: u16) -> u32
+    requires { ⌜ index ≤ length (now terms) ⌝ }
+    ensures { λ r. ⌜ ((orders : List ℕ) (last : ℕ) → index ≤ last → r ≡ term-at (entries-of (now (terms .entry)) orders 0 last) index) ⌝ }
+{
+    if index == 0 {
+        return 0;
+    }
+    terms[(index - 1) as usize]
+}
 
 // "If previous index is not 0 and the log lacks an entry there with that term"
 pub fn lacks(terms: &[u32], last: u16, index: u16, term: u32) -> bool

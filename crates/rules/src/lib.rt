@@ -13,6 +13,7 @@ pub use entries::cuts_committed;
 pub use entries::lacks;
 pub use entries::search;
 pub use entries::store;
+pub use entries::term_at;
 pub use mask::bit;
 pub use mask::holds;
 pub use mask::is_majority;

@@ -26,10 +26,10 @@ returns : tie.Need-returns
 unfolding entry-at
 returns c =
     rw (c .before .get-u32 .ensures, c .get-u64 .ensures)
-    (sym (entry-there (c .before .before .before .before .args .s .now) 34 (c .before .before .before .before .args .count) (c .before .before .before .before .args .at) (omega arith)))
+    (sym (entry-there (c .before .before .before .before .args .s .now) (c .before .before .before .before .args .from) (c .before .before .before .before .args .count) (c .before .before .before .before .args .at) (omega arith)))
 
 returns-2 : tie.Need-returns-2
-returns-2 c = sym (entry-past (c .before .before .args .s .now) 34 (c .before .before .args .count) (c .before .before .args .at) (omega arith))
+returns-2 c = sym (entry-past (c .before .before .args .s .now) (c .before .before .args .from) (c .before .before .args .count) (c .before .before .args .at) (omega arith))
 
 pub entry-spec : {M : Type 1} → statement M
 entry-spec =

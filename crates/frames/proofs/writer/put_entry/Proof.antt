@@ -28,9 +28,8 @@ returns c =
     let term = order .before .before .before .before in
     let entered = term .before .before .before in
     let d = entered .args .room .now in
-    let e = entered .args .e in
-    put-next d (entered .args .at) (number 4 (e .term) ∷ []) (Message.order (e .order)) (omega arith)
-    (put-next d (entered .args .at) [] (number 4 (e .term)) (omega arith) (put-none d (entered .args .at)) (rw add-zero (term .put-u32 .ensures)))
+    put-next d (entered .args .at) (number 4 (entered .args .term) ∷ []) (Message.order (entered .args .order)) (omega arith)
+    (put-next d (entered .args .at) [] (number 4 (entered .args .term)) (omega arith) (put-none d (entered .args .at)) (rw add-zero (term .put-u32 .ensures)))
     (order .put-u64 .ensures)
 
 pub put-entry-spec : {M : Type 1} → statement M

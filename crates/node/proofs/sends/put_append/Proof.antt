@@ -23,30 +23,37 @@ entry-count-requires : tie.Need-entry-count-requires
 entry-count-requires c κs = search needs
 
 term-at-requires : tie.Need-term-at-requires
-term-at-requires c κs = omega (arith, c .before .previous .ensures, (c .before .before .before .before .before .before .before .pre .1 .1 .0) .next (c .before .before .before .before .before .before .before .args .i) (c .before .before .before .before .before .before .before .pre .0) (c .before .before .before .before .before .before .before .pre .1 .0) (sym (c .before .before .before .is-other .ensures) ∙ not-false _ (c .before .before .if1 .left)), (c .before .before .before .before .before .before .before .pre .1 .1 .0) .in-terms)
+term-at-requires c κs =
+    let before = c .before in
+    let other = before .before .before in
+    let entered = other .before .before .before .before in
+    let sendable = entered .pre .1 .1 .0 in
+    let is = sym (other .is-other .ensures) ∙ not-false _ (before .before .if1 .left) in
+    omega (arith, before .previous .ensures, sendable .next (entered .args .i) (entered .pre .0) (entered .pre .1 .0) is, sendable .in-terms)
 
-cast-slots : tie.Need-cast-slots
-cast-slots c = search needs
+sub-put-append-from : tie.Need-sub-put-append-from
+sub-put-append-from c = search needs
 
-cast-slots-2 : tie.Need-cast-slots-2
-cast-slots-2 c = search needs
+part-put-append-from-start : tie.Need-part-put-append-from-start
+part-put-append-from-start c = search needs
 
-slots-requires : tie.Need-slots-requires
-slots-requires c κs = (omega (arith, c .before .before .before .previous .ensures, (c .before .before .before .before .before .before .before .before .before .pre .1 .1 .0) .next (c .before .before .before .before .before .before .before .before .before .args .i) (c .before .before .before .before .before .before .before .before .before .pre .0) (c .before .before .before .before .before .before .before .before .before .pre .1 .0) (sym (c .before .before .before .before .before .is-other .ensures) ∙ not-false _ (c .before .before .before .before .if1 .left))), ((c .before .before .before .before .before .before .before .before .before .pre .1 .1 .0) .in-terms, (c .before .before .before .before .before .before .before .before .before .pre .1 .1 .0) .in-orders))
+part-put-append-from-end : tie.Need-part-put-append-from-end
+part-put-append-from-end c = search needs
 
-sub-put-append : tie.Need-sub-put-append
-sub-put-append c = search needs
-
-part-put-append-start : tie.Need-part-put-append-start
-part-put-append-start c = search needs
-
-part-put-append-end : tie.Need-part-put-append-end
-part-put-append-end c = search needs
-
-put-append-requires : tie.Need-put-append-requires
-put-append-requires c κs =
-    let room = rw (sym (c .before .before .before .before .before .before .before .is-other .ensures) ∙ not-false _ (c .before .before .before .before .before .before .if1 .left)) at (c .before .before .before .before .before .before .before .before .before .before .before .pre .1 .1 .1) in
-    (c .before .before .before .before .entry-count .ensures .1, omega (arith, tells-long (c .before .before .before .before .before .before .before .before .before .before .before .args .n) (c .before .before .before .before .before .before .before .before .before .before .before .args .terms .now) (c .before .before .before .before .before .before .before .before .before .before .before .args .orders .now) (c .before .before .before .before .before .before .before .before .before .before .before .args .i) (c .before .before .before .before .before .previous .result) (c .before .before .before .before .entry-count .result) (c .before .before .before .before .before .previous .ensures) (c .before .before .before .before .entry-count .ensures .0), rest-long (c .before .before .before .before .before .before .before .before .before .before .before .args .room .now) (c .before .before .before .before .before .before .before .before .before .before .before .args .at)))
+put-append-from-requires : tie.Need-put-append-from-requires
+put-append-from-requires c κs =
+    let counted = c .before .before in
+    let before = counted .before in
+    let other = before .before .before in
+    let entered = other .before .before .before .before in
+    let sendable = entered .pre .1 .1 .0 in
+    let is = sym (other .is-other .ensures) ∙ not-false _ (before .before .if1 .left) in
+    let next = sendable .next (entered .args .i) (entered .pre .0) (entered .pre .1 .0) is in
+    let room = rw is at (entered .pre .1 .1 .1) in
+    let long = tells-long (entered .args .n) (entered .args .terms .now) (entered .args .orders .now) (entered .args .i) (before .previous .result) (counted .entry-count .result) (before .previous .ensures) (counted .entry-count .ensures .0) in (
+      omega (arith, before .previous .ensures, counted .entry-count .ensures .0, next, sendable .in-terms),
+      (omega (arith, before .previous .ensures, counted .entry-count .ensures .0, next, sendable .in-orders), omega (arith, long, rest-long (entered .args .room .now) (entered .args .at))),
+    )
 
 cast-result : tie.Need-cast-result
 cast-result c = search needs
@@ -65,13 +72,22 @@ same-length c = search needs
 
 returns-2 : tie.Need-returns-2
 returns-2 c =
-    let room = rw (sym (c .before .before .before .before .before .before .before .before .before .before .is-other .ensures) ∙ not-false _ (c .before .before .before .before .before .before .before .before .before .if1 .left)) at (c .before .before .before .before .before .before .before .before .before .before .before .before .before .before .pre .1 .1 .1) in
-    let long = tells-long (c .before .before .before .before .before .before .before .before .before .before .before .before .before .before .args .n) (c .before .before .before .before .before .before .before .before .before .before .before .before .before .before .args .terms .now) (c .before .before .before .before .before .before .before .before .before .before .before .before .before .before .args .orders .now) (c .before .before .before .before .before .before .before .before .before .before .before .before .before .before .args .i) (c .before .before .before .before .before .before .before .before .previous .result) (c .before .before .before .before .before .before .before .entry-count .result) (c .before .before .before .before .before .before .before .before .previous .ensures) (c .before .before .before .before .before .before .before .entry-count .ensures .0) in
-    let told = tells (c .before .before .before .before .before .before .before .before .before .before .before .before .before .before .args .n) (c .before .before .before .before .before .before .before .before .before .before .before .before .before .before .args .terms .now) (c .before .before .before .before .before .before .before .before .before .before .before .before .before .before .args .orders .now) (c .before .before .before .before .before .before .before .before .before .before .before .before .before .before .args .i) _ _ _ _ (omega (arith, c .before .before .before .before .before .before .before .before .previous .ensures, (c .before .before .before .before .before .before .before .before .before .before .before .before .before .before .pre .1 .1 .0) .next (c .before .before .before .before .before .before .before .before .before .before .before .before .before .before .args .i) (c .before .before .before .before .before .before .before .before .before .before .before .before .before .before .pre .0) (c .before .before .before .before .before .before .before .before .before .before .before .before .before .before .pre .1 .0) (sym (c .before .before .before .before .before .before .before .before .before .before .is-other .ensures) ∙ not-false _ (c .before .before .before .before .before .before .before .before .before .if1 .left))))
-    (c .before .before .before .before .before .before .before .before .previous .ensures) (c .before .before .before .before .before .before .term-at .ensures (c .before .before .before .before .before .before .before .before .before .before .before .before .before .before .args .orders .now) ((c .before .before .before .before .before .before .before .before .before .before .before .before .before .before .args .n) .last) (omega (arith, c .before .before .before .before .before .before .before .before .previous .ensures, (c .before .before .before .before .before .before .before .before .before .before .before .before .before .before .pre .1 .1 .0) .next (c .before .before .before .before .before .before .before .before .before .before .before .before .before .before .args .i) (c .before .before .before .before .before .before .before .before .before .before .before .before .before .before .pre .0) (c .before .before .before .before .before .before .before .before .before .before .before .before .before .before .pre .1 .0) (sym (c .before .before .before .before .before .before .before .before .before .before .is-other .ensures) ∙ not-false _ (c .before .before .before .before .before .before .before .before .before .if1 .left)))))
-    (c .before .before .before .before .before .before .before .entry-count .ensures .0) (c .before .before .before .before .slots .ensures) in (
-      rw ((sym (c .before .before .before .before .before .before .before .before .before .before .is-other .ensures) ∙ not-false _ (c .before .before .before .before .before .before .before .before .before .if1 .left)), long),
-      rw ((sym (c .before .before .before .before .before .before .before .before .before .before .is-other .ensures) ∙ not-false _ (c .before .before .before .before .before .before .before .before .before .if1 .left)), texts-one, c .before .before .put-append .ensures, told) (over-rest (c .before .before .before .before .before .before .before .before .before .before .before .before .before .before .args .room .now) (c .before .before .before .before .before .before .before .before .before .before .before .before .before .before .args .at) _ (omega arith)),
+    let stored = c .before .before in
+    let prior = stored .before .before in
+    let counted = prior .before in
+    let before = counted .before in
+    let other = before .before .before in
+    let entered = other .before .before .before .before in
+    let sendable = entered .pre .1 .1 .0 in
+    let is = sym (other .is-other .ensures) ∙ not-false _ (before .before .if1 .left) in
+    let next = sendable .next (entered .args .i) (entered .pre .0) (entered .pre .1 .0) is in
+    let room = rw is at (entered .pre .1 .1 .1) in
+    let long = tells-long (entered .args .n) (entered .args .terms .now) (entered .args .orders .now) (entered .args .i) (before .previous .result) (counted .entry-count .result) (before .previous .ensures) (counted .entry-count .ensures .0) in
+    let told = tells (entered .args .n) (entered .args .terms .now) (entered .args .orders .now) (entered .args .i) _ _ _ (before .previous .ensures)
+    (prior .term-at .ensures (entered .args .orders .now) (entered .args .n .last) (omega (arith, before .previous .ensures, next)))
+    (counted .entry-count .ensures .0) in (
+      rw (is, long),
+      rw (is, texts-one, stored .put-append-from .ensures, told) (over-rest (entered .args .room .now) (entered .args .at) _ (omega arith)),
     )
 
 pub put-append-spec : {M : Type 1} → statement M
@@ -83,13 +99,10 @@ put-append-spec =
     previous-requires
     entry-count-requires
     term-at-requires
-    cast-slots
-    cast-slots-2
-    slots-requires
-    sub-put-append
-    part-put-append-start
-    part-put-append-end
-    put-append-requires
+    sub-put-append-from
+    part-put-append-from-start
+    part-put-append-from-end
+    put-append-from-requires
     cast-result
     mul-result
     add-result

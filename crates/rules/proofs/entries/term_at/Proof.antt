@@ -2,9 +2,9 @@
 use borrow.Author.Needs.{needs}
 use native.Mathlib.Omega.{arith}
 use mathlib.Core.Path.{ap, sym, _∙_}
-use Rattle.node.specs.SizeLaws.{term-there, term-none}
-use Rattle.node.proofs.sends.term_at.Statement.{statement}
-use Rattle.node.proofs.sends.term_at.Tie as tie
+use Rattle.raft.specs.LentLaws.{term-there, term-none}
+use Rattle.rules.proofs.entries.term_at.Statement.{statement}
+use Rattle.rules.proofs.entries.term_at.Tie as tie
 
 returns : tie.Need-returns
 returns c = λ orders last h. rw (c .if1 .taken) (sym (term-none _))

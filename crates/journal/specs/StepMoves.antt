@@ -1,0 +1,167 @@
+-- What every step does to the stored part: the term does not fall, a vote that is set stays within a term, and at most four entries are
+-- added. Assumes nothing.
+use Prim.Native.Nat.{ℕ, _+_, _≤_, _<_}
+use native.Mathlib.Omega.{arith}
+use mathlib.Core.Path.{_≡_, refl, sym, _∙_}
+use mathlib.Core.Bool.{Bool, true, false, _||_}
+use mathlib.Core.List.{List, [], _∷_}
+use lib.Dec.{eqb}
+use lib.ListN.{length, length-append}
+use borrow.Author.Tests.{eqb-true}
+use Rattle.frames.specs.declared.Entry.{Entry}
+use Rattle.frames.specs.Message.{Message, vote-request, vote-answer, append, append-answer}
+use Rattle.raft.specs.Record.{State, good}
+use Rattle.raft.specs.Journal.{kept}
+use Rattle.raft.specs.Commit.{settle}
+use Rattle.raft.specs.Step.{done, standing, leading, timeout, ordered, order, prompt}
+use Rattle.raft.specs.Receive.{taking, taken, voting, adding, lacks, following, joining, heard, deliver, sender, receive}
+use Rattle.raft.specs.RecordLaws.{Good, self-voted}
+use Rattle.raft.specs.StepLaws.{timeout-ends, order-ends, prompt-ends, timeout-good, order-good, prompt-good}
+use Rattle.raft.specs.FitLaws.{Fits, timeout-fits, order-fits, prompt-fits}
+use Rattle.raft.specs.JoinLaws.{lacks-not}
+use Rattle.raft.specs.ReceiveLaws.{taken-by, taken-keeps, Ends, vote-request-ends, yes-facts, vote-answer-ends, append-ends, append-answer-ends, Arrives, receive-ends, term-of, sent-by, offer-facts, receive-good}
+use Rattle.raft.specs.ReceiveSends.{receive-fits}
+use Rattle.journal.specs.Runs.{Step, by-timeout, by-order, by-prompt, by-frame}
+use Rattle.journal.specs.KeptLaws.{kept-self, kept-more, joined-few}
+
+-- What a step may make of a record's stored part.
+pub record Moves (s : State) (me members term vote : ℕ) (log : List Entry) : Type 0 where
+  pub mine : me ≡ s .me
+  pub ours : members ≡ s .members
+  pub least : 1 ≤ term
+  pub rises : s .term ≤ term
+  pub stays : s .term ≡ term → (s .vote ≡ 0 → ⊥) → vote ≡ s .vote
+  pub few : length log ≤ kept (s .log) log + 4
+
+abbrev pub Moved : State → State → Type 0
+Moved s t = Moves s (t .me) (t .members) (t .term) (t .vote) (t .log)
+
+-- Nothing, in a term of at least 1,
+moved-not : (s : State) → 1 ≤ s .term → Moved s s
+moved-not s l =
+    record { mine = refl; ours = refl; least = l; rises = omega arith; stays = λ e n. refl; few = omega (arith, kept-self (s .log)) }
+
+-- or a term that is higher, with whatever vote.
+moved-up : (s : State) (term vote : ℕ) → s .term < term → Moves s (s .me) (s .members) term vote (s .log)
+moved-up s term vote l =
+    record {
+      mine = refl;
+      ours = refl;
+      least = omega arith;
+      rises = omega arith;
+      stays = λ e n. absurd (omega arith);
+      few = omega (arith, kept-self (s .log));
+    }
+
+-- ---- timeout, order, prompt
+
+-- A timeout moves the stored part so,
+pub timeout-moves : (s : State) → Good s → (t : State) (ms : List Message) → timeout s ≡ done t ms → Moved s t
+unfolding settle leading standing
+timeout-moves s g =
+    timeout-ends (λ t ms. Moved s t) s (λ r. moved-not s (self-voted s g (omega arith) .1))
+    (λ c m. moved-up s (s .term + 1) (s .me) (omega arith)) (λ c m. moved-up s (s .term + 1) (s .me) (omega arith))
+
+-- an order,
+pub order-moves : (o : ℕ) (s : State) → Good s → (t : State) (ms : List Message) → order o s ≡ done t ms → Moved s t
+unfolding settle ordered
+order-moves o s g =
+    order-ends (λ t ms. Moved s t) o s
+    (λ r l. record {
+      mine = refl;
+      ours = refl;
+      least = self-voted s g (omega arith) .1;
+      rises = omega arith;
+      stays = λ e n. refl;
+      few = rw (kept-more (s .log) (record { term = s .term; order = o } ∷ []), length-append) (omega arith);
+    })
+
+-- a prompt,
+pub prompt-moves : (s : State) → Good s → (t : State) (ms : List Message) → prompt s ≡ done t ms → Moved s t
+prompt-moves s g = prompt-ends (λ t ms. Moved s t) s (λ r. moved-not s (self-voted s g (omega arith) .1))
+
+-- ---- a frame
+
+-- a message's term taken
+moved-taken : (s : State) (term : ℕ) → 1 ≤ term → Moved s (taken term s)
+unfolding taking
+moved-taken s term l = taken-by (Moved s) term s (λ h. moved-up s term 0 h) (λ h. moved-not s (omega arith))
+
+-- and then a vote, where it was free or is for the same
+moved-voting : (s t : State) (from : ℕ) → Moved s t → (eqb (t .vote) 0 || eqb (t .vote) from) ≡ true → Moved s (voting t from)
+unfolding voting
+moved-voting s t from m free =
+    record { mine = m .mine; ours = m .ours; least = m .least; rises = m .rises; stays = λ e n. go e n (eqb (t .vote) 0) refl free; few = m .few }
+  where
+    go : s .term ≡ t .term → (s .vote ≡ 0 → ⊥) → (b : Bool) → eqb (t .vote) 0 ≡ b → (b || eqb (t .vote) from) ≡ true → from ≡ s .vote
+    go e n true p f = absurd (n (sym (m .stays e n) ∙ eqb-true _ _ p))
+    go e n false p f = sym (eqb-true _ _ f) ∙ m .stays e n
+
+-- or entries joined to the log
+moved-joining : (s : State) (term index prior commit : ℕ) (es : List Entry) → 1 ≤ term → lacks (taken term s .log) index prior ≡ false
+    → length es ≤ 4 → Moved s (joining (taken term s) index commit es)
+unfolding joining
+moved-joining s term index prior commit es l n f =
+    let m = moved-taken s term l in
+    let same = taken-keeps term s .2 in
+    let there : index ≤ length (s .log) = rw same at (lacks-not (taken term s .log) index prior n .0) in
+    record {
+      mine = m .mine;
+      ours = m .ours;
+      least = m .least;
+      rises = m .rises;
+      stays = m .stays;
+      few = rw same (joined-few (s .log) index es there f);
+    }
+
+-- Each message that arrives moves it so,
+pub deliver-moves : (s : State) → Good s → (m : Message) → Arrives s m → Ends (λ t ms. Moved s t) (deliver m s)
+unfolding deliver sender term-of settle leading adding following heard
+deliver-moves s g (vote-request from to term index prior) a =
+    let d = sent-by s (vote-request from to term index prior) a in
+    let m = moved-taken s term (d .early) in
+    vote-request-ends (λ t ms. Moved s t) s from term index prior
+    (λ y. moved-voting s (taken term s) from m (yes-facts s from term index prior y .free)) (λ n. m)
+deliver-moves s g (vote-answer from to term reply) a =
+    let d = sent-by s (vote-answer from to term reply) a in
+    vote-answer-ends (λ t ms. Moved s t) s from term reply
+    (λ c m. moved-not s (omega (arith, c .same, d .early))) (λ c m. moved-not s (omega (arith, c .same, d .early)))
+    (λ n. moved-taken s term (d .early))
+deliver-moves s g (append from to term index prior commit es) a =
+    let d = sent-by s (append from to term index prior commit es) a in
+    let o = offer-facts from to term index prior commit es (a .obeyed) in
+    append-ends (λ t ms. Moved s t) s from term index prior commit es
+    (λ l. moved-not s (omega (arith, d .early))) (λ l n. moved-taken s term (d .early))
+    (λ l n c. moved-joining s term index prior commit es (d .early) n (o .few))
+deliver-moves s g (append-answer from to term reply index) a =
+    let d = sent-by s (append-answer from to term reply index) a in
+    append-answer-ends (λ t ms. Moved s t) s from term reply index
+    (λ h b. moved-not s (omega (arith, h .same, d .early))) (λ h b. moved-not s (omega (arith, h .same, d .early)))
+    (λ n. moved-taken s term (d .early))
+
+-- and so do any bytes.
+pub receive-moves : (bytes : List ℕ) (s : State) → Good s → (t : State) (ms : List Message) → receive bytes s ≡ done t ms → Moved s t
+receive-moves bytes s g = receive-ends (λ t ms. Moved s t) s (deliver-moves s g) bytes
+
+-- ---- any step
+
+-- Each moves the stored part so,
+pub step-moves : (s t : State) → Good s → Step s t → Moved s t
+step-moves s t g (by-timeout ms e) = timeout-moves s g t ms e
+step-moves s t g (by-order o ms l e) = order-moves o s g t ms e
+step-moves s t g (by-prompt ms e) = prompt-moves s g t ms e
+step-moves s t g (by-frame bytes ms e) = receive-moves bytes s g t ms e
+
+-- leaves a good record good,
+pub step-good : (s t : State) → good s ≡ true → Step s t → good t ≡ true
+step-good s t h (by-timeout ms e) = timeout-good s h t ms e
+step-good s t h (by-order o ms l e) = order-good o s h t ms e
+step-good s t h (by-prompt ms e) = prompt-good s h t ms e
+step-good s t h (by-frame bytes ms e) = receive-good bytes s h t ms e
+
+-- and within its types.
+pub step-fits : (s t : State) → good s ≡ true → Fits s → Step s t → Fits t
+step-fits s t h f (by-timeout ms e) = timeout-fits s h f t ms e .0
+step-fits s t h f (by-order o ms l e) = order-fits o s h f l t ms e .0
+step-fits s t h f (by-prompt ms e) = prompt-fits s h f t ms e .0
+step-fits s t h f (by-frame bytes ms e) = receive-fits bytes s h f t ms e .0
