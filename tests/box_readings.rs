@@ -81,6 +81,17 @@ impl Bench {
         )
     }
 
+    fn open(&mut self, journal: &[u8]) -> u8 {
+        library::open(
+            1,
+            journal,
+            &mut self.numbers,
+            &mut self.terms,
+            &mut self.orders,
+            &mut self.sizes,
+        )
+    }
+
     fn handed_out(&self) -> (u8, u64) {
         let mut count = 0;
         let answer = library::handed_out(&self.numbers, &self.terms, &self.orders, &mut count);
@@ -276,6 +287,27 @@ fn a_leader_commits_by_its_own_term_only() {
             assert_eq!(bench.written(), writes(&[], &[]));
         }
         assert_eq!(bench.handed_out(), (0, commit));
+    }
+}
+
+const JOURNAL: &[u8; 32] = b"01110107\n0110010000000101000000\n";
+
+/// What box 1 wrote at its start and at the timeout.
+#[test]
+fn a_journal_is_opened() {
+    let mut bench = BENCH;
+    assert_eq!(bench.open(JOURNAL), 0);
+    assert_eq!(bench.numbers[..5], [1, 0x07, 1, 1, 0]);
+    assert_eq!(bench.numbers[5..], [0; 17]);
+    assert_eq!(bench.sizes, [32, 0]);
+}
+
+#[test]
+fn a_journal_cut_inside_its_head_is_11() {
+    for cut in 0..9 {
+        let mut bench = BENCH;
+        assert_eq!(bench.open(&JOURNAL[..cut]), 11);
+        assert!(bench == BENCH);
     }
 }
 

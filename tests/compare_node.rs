@@ -11,8 +11,14 @@ mod branches;
 #[path = "compare_node/call.rs"]
 mod call;
 
+#[path = "counts.rs"]
+mod counts;
+
 #[path = "damage.rs"]
 mod damage;
+
+#[path = "guarded.rs"]
+mod guarded;
 
 #[allow(dead_code)] // frames have a program of their own
 #[path = "library.rs"]
@@ -34,11 +40,13 @@ mod received;
 #[path = "twin/records.rs"]
 mod records;
 
+#[allow(dead_code)] // the journal has a program of its own
 #[path = "sides.rs"]
 mod sides;
 
-use branches::{Branches, Counts, Name};
+use branches::Branches;
 use call::{Call, Difference, Event, Lent, Rooms, ROOMY};
+use counts::{Counts, Name};
 use library::NUMBERS;
 use random::Random;
 use received::Fields;
@@ -353,24 +361,6 @@ fn wanted() -> Vec<Name> {
     names
 }
 
-fn spelled((name, number): Name) -> String {
-    match number {
-        Some(number) => format!("{name}_{number}"),
-        None => name.into(),
-    }
-}
-
-/// The counts, and whether each case was reached.
-fn report(counts: &Counts) -> Result<(), String> {
-    let times = |name: Name| format!("{} {}", spelled(name), counts.times(name));
-    let line: Vec<String> = wanted().into_iter().map(times).collect();
-    println!("{}", line.join(", "));
-    match wanted().into_iter().find(|name| counts.times(*name) == 0) {
-        Some(name) => Err(spelled(name)),
-        None => Ok(()),
-    }
-}
-
 fn main() -> ExitCode {
     let numbers: Vec<Option<u64>> = std::env::args()
         .skip(1)
@@ -396,7 +386,7 @@ fn main() -> ExitCode {
         }
         number += 1;
     }
-    if let Err(name) = report(&comparison.counts) {
+    if let Err(name) = comparison.counts.report(&wanted()) {
         println!("node: {name} was never reached ({count} steps, seed {seed})");
         return ExitCode::FAILURE;
     }

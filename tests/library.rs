@@ -1,5 +1,5 @@
 //! The proved library's C functions, as `crates/abi` has them, and those of the
-//! box a second time with what is lent in Rust's types.
+//! box and its journal a second time with what is lent in Rust's types.
 
 #[link(name = "abi", kind = "static")]
 unsafe extern "C" {
@@ -55,6 +55,22 @@ unsafe extern "C" {
         orders: *const u64,
         count: *mut u64,
     ) -> u8;
+    pub fn journal_open(
+        me: u8,
+        text: *const u8,
+        text_len: usize,
+        numbers: *mut u64,
+        terms: *mut u32,
+        orders: *mut u64,
+        sizes: *mut u64,
+    ) -> u8;
+    pub fn journal_replay(
+        text: *const u8,
+        text_len: usize,
+        numbers: *mut u64,
+        terms: *mut u32,
+        orders: *mut u64,
+    ) -> u8;
 }
 
 pub const NUMBERS: usize = 22;
@@ -78,7 +94,8 @@ pub const LEADER: u64 = 2;
 pub type Numbers = [u64; NUMBERS];
 pub type Terms = [u32; 256];
 pub type Orders = [u64; 256];
-/// Bytes of the journal line and of the messages.
+/// Bytes of the journal line and of the messages; of an opening the bytes of
+/// the whole lines, or the number of the bad one.
 pub type Sizes = [u64; 2];
 
 /// The refusal and 256 times the bytes written.
@@ -189,4 +206,39 @@ pub fn receive(
 
 pub fn handed_out(numbers: &Numbers, terms: &Terms, orders: &Orders, count: &mut u64) -> u8 {
     unsafe { box_handed_out(numbers.as_ptr(), terms.as_ptr(), orders.as_ptr(), count) }
+}
+
+/// 0 with the record and the first of the sizes, 10 with the second, or 11.
+pub fn open(
+    me: u8,
+    text: &[u8],
+    numbers: &mut Numbers,
+    terms: &mut Terms,
+    orders: &mut Orders,
+    sizes: &mut Sizes,
+) -> u8 {
+    unsafe {
+        journal_open(
+            me,
+            text.as_ptr(),
+            text.len(),
+            numbers.as_mut_ptr(),
+            terms.as_mut_ptr(),
+            orders.as_mut_ptr(),
+            sizes.as_mut_ptr(),
+        )
+    }
+}
+
+/// One whole line over the record so far: 0 with the next one, 10 or 12.
+pub fn replay(text: &[u8], numbers: &mut Numbers, terms: &mut Terms, orders: &mut Orders) -> u8 {
+    unsafe {
+        journal_replay(
+            text.as_ptr(),
+            text.len(),
+            numbers.as_mut_ptr(),
+            terms.as_mut_ptr(),
+            orders.as_mut_ptr(),
+        )
+    }
 }

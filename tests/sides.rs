@@ -1,13 +1,17 @@
-//! The proved box and the twin, each call with one signature for both.
+//! The proved box and the twin, with their journals, each call with one signature
+//! for both.
 
 use crate::library::{self, Numbers, Orders, Sizes, Terms};
-use crate::node;
+use crate::node::{self, journal};
 
 /// A timeout or a prompt, which leave the log alone.
 type OverLog = fn(&mut Numbers, &Terms, &Orders, &mut [u8], &mut [u8], &mut Sizes) -> u8;
 type Order = fn(u64, &mut Numbers, &mut Terms, &mut Orders, &mut [u8], &mut [u8], &mut Sizes) -> u8;
 type Receive =
     fn(&[u8], &mut Numbers, &mut Terms, &mut Orders, &mut [u8], &mut [u8], &mut Sizes) -> u8;
+
+type Open = fn(u8, &[u8], &mut Numbers, &mut Terms, &mut Orders, &mut Sizes) -> u8;
+type Replay = fn(&[u8], &mut Numbers, &mut Terms, &mut Orders) -> u8;
 
 #[derive(Clone, Copy)]
 pub struct Side {
@@ -17,6 +21,8 @@ pub struct Side {
     pub order: Order,
     pub receive: Receive,
     pub handed_out: fn(&Numbers, &Terms, &Orders, &mut u64) -> u8,
+    pub open: Open,
+    pub replay: Replay,
 }
 
 pub const OURS: Side = Side {
@@ -26,6 +32,8 @@ pub const OURS: Side = Side {
     order: library::order,
     receive: library::receive,
     handed_out: library::handed_out,
+    open: library::open,
+    replay: library::replay,
 };
 
 pub const TWIN: Side = Side {
@@ -35,4 +43,6 @@ pub const TWIN: Side = Side {
     order: node::flat_order,
     receive: node::flat_receive,
     handed_out: node::flat_handed_out,
+    open: journal::flat_open,
+    replay: journal::flat_replay,
 };

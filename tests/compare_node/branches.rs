@@ -2,41 +2,13 @@
 //! before and after, the message and what was written, not from either side's
 //! own decisions.
 
-use std::collections::BTreeMap;
-
 use crate::call::{Call, Event};
+use crate::counts::{Counts, Name};
 use crate::library::{
     CANDIDATE, COMMIT, FOLLOWER, LAST, LEADER, MATCH, ME, MEMBERS, NEXT, ROLE, TERM, VOTE, VOTES,
 };
 use crate::received::{Fields, APPEND, APPEND_ANSWER, VOTE_ANSWER, VOTE_REQUEST};
 use crate::records::{bit, boxes, Record, LAST_TERM};
-
-/// A name, and a number where there are several of it.
-pub type Name = (&'static str, Option<u64>);
-
-#[derive(Default)]
-pub struct Counts(BTreeMap<Name, u64>);
-
-impl Counts {
-    pub fn add(&mut self, name: &'static str) {
-        *self.0.entry((name, None)).or_default() += 1;
-    }
-
-    pub fn add_of(&mut self, name: &'static str, number: u64) {
-        *self.0.entry((name, Some(number))).or_default() += 1;
-    }
-
-    /// Those that hold.
-    fn add_each(&mut self, cases: &[(bool, &'static str)]) {
-        for (_, name) in cases.iter().filter(|(holds, _)| *holds) {
-            self.add(name);
-        }
-    }
-
-    pub fn times(&self, name: Name) -> u64 {
-        self.0.get(&name).copied().unwrap_or(0)
-    }
-}
 
 /// In the order of the kinds.
 const LOWER: [&str; 4] = [

@@ -2,6 +2,7 @@
 
 use std::fmt;
 
+use crate::guarded::{hex, middle, middle_mut, same_around, BOTH, GUARD};
 use crate::library::{Numbers, Orders, Sizes, Terms, NUMBERS};
 use crate::random::Random;
 use crate::records::Record;
@@ -57,10 +58,6 @@ pub const ROOMY: Rooms = Rooms {
 
 /// No text that is received is longer.
 const TEXT: usize = 400;
-
-/// Numbers and bytes on both sides of what is lent; neither side may touch them.
-const GUARD: usize = 8;
-const BOTH: usize = 2 * GUARD;
 
 /// All that a call may touch, and around it. Of the rooms and the text a call is
 /// lent the first bytes only. The count of entries handed out takes the first of
@@ -127,14 +124,6 @@ impl Lent {
             &self.room[GUARD..][..sizes.messages],
         )
     }
-}
-
-fn middle<T: Copy, const N: usize>(guarded: &[T]) -> [T; N] {
-    guarded[GUARD..][..N].try_into().expect("as many")
-}
-
-fn middle_mut<T, const N: usize>(guarded: &mut [T]) -> &mut [T; N] {
-    (&mut guarded[GUARD..][..N]).try_into().expect("as many")
 }
 
 /// The refusal; of a start also the bytes written, times 256.
@@ -250,11 +239,6 @@ pub struct Difference {
     twin: (u64, Lent),
 }
 
-fn hex<T: fmt::LowerHex>(numbers: &[T]) -> String {
-    let numbers: Vec<String> = numbers.iter().map(|n| format!("{n:x}")).collect();
-    numbers.join(" ")
-}
-
 impl Difference {
     pub fn print(&self) {
         println!("difference: {}", self.what);
@@ -291,17 +275,13 @@ impl Difference {
 
     /// Around what was lent, this is as before.
     fn is_around(&self, lent: &Lent) -> bool {
-        fn same<T: PartialEq>(one: &[T], other: &[T], lent: usize) -> bool {
-            let end = GUARD + lent;
-            one[..GUARD] == other[..GUARD] && one[end..] == other[end..]
-        }
         let before = &self.before;
-        same(&lent.numbers, &before.numbers, NUMBERS)
-            && same(&lent.terms, &before.terms, 256)
-            && same(&lent.orders, &before.orders, 256)
-            && same(&lent.journal, &before.journal, self.rooms.journal)
-            && same(&lent.room, &before.room, self.rooms.messages)
-            && same(&lent.sizes, &before.sizes, 2)
+        same_around(&lent.numbers, &before.numbers, NUMBERS)
+            && same_around(&lent.terms, &before.terms, 256)
+            && same_around(&lent.orders, &before.orders, 256)
+            && same_around(&lent.journal, &before.journal, self.rooms.journal)
+            && same_around(&lent.room, &before.room, self.rooms.messages)
+            && same_around(&lent.sizes, &before.sizes, 2)
             && lent.text == before.text
     }
 }

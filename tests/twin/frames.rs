@@ -155,12 +155,26 @@ static DIGITS: [[u8; 2]; 256] = {
 
 /// Takes fields off the front of a text; whether all of it was digits is asked
 /// once, at the end. Inlined, so that widths are constants at each use.
-struct Digits<'a> {
+pub struct Digits<'a> {
     left: &'a [u8],
     seen: u8,
 }
 
-impl Digits<'_> {
+impl<'a> Digits<'a> {
+    #[inline(always)]
+    pub fn of(text: &'a [u8]) -> Digits<'a> {
+        Digits {
+            left: text,
+            seen: 0,
+        }
+    }
+
+    /// Nothing is left, and all that was taken were digits.
+    #[inline(always)]
+    pub fn are_all(&self) -> bool {
+        self.left.is_empty() && self.seen != NO_DIGIT
+    }
+
     #[inline(always)]
     fn field<const WIDTH: usize>(&mut self) -> Option<u64> {
         let (digits, left) = self.left.split_first_chunk::<WIDTH>()?;
@@ -175,22 +189,22 @@ impl Digits<'_> {
     }
 
     #[inline(always)]
-    fn byte(&mut self) -> Option<u8> {
+    pub fn byte(&mut self) -> Option<u8> {
         self.field::<2>().map(|value| value as u8)
     }
 
     #[inline(always)]
-    fn index(&mut self) -> Option<u16> {
+    pub fn index(&mut self) -> Option<u16> {
         self.field::<4>().map(|value| value as u16)
     }
 
     #[inline(always)]
-    fn term(&mut self) -> Option<u32> {
+    pub fn term(&mut self) -> Option<u32> {
         self.field::<8>().map(|value| value as u32)
     }
 
     #[inline(always)]
-    fn order(&mut self) -> Option<[u8; 8]> {
+    pub fn order(&mut self) -> Option<[u8; 8]> {
         self.field::<16>().map(u64::to_be_bytes)
     }
 }
@@ -198,10 +212,7 @@ impl Digits<'_> {
 /// The message, exactly when the bytes are one frame, its line feed included.
 pub fn read(bytes: &[u8]) -> Option<Message> {
     let text = bytes.strip_suffix(b"\n")?;
-    let mut digits = Digits {
-        left: text,
-        seen: 0,
-    };
+    let mut digits = Digits::of(text);
     let (version, kind) = (digits.byte()?, digits.byte()?);
     let (from, to, term) = (digits.byte()?, digits.byte()?, digits.term()?);
     if version != 1 {
@@ -253,7 +264,7 @@ pub fn read(bytes: &[u8]) -> Option<Message> {
         },
         _ => return None,
     };
-    (digits.left.is_empty() && digits.seen != NO_DIGIT && is_frame(&message)).then_some(message)
+    (digits.are_all() && is_frame(&message)).then_some(message)
 }
 
 /// Writes the bytes' digits; the text has room for them.

@@ -6,6 +6,9 @@ use std::ops::Range;
 #[path = "frames.rs"]
 pub mod frames;
 
+#[path = "journal.rs"]
+pub mod journal;
+
 use frames::{encode, Entry, Message, NOT_A_FRAME, NO_ROOM};
 
 /// Not to this box, from itself, or from a non-member.
@@ -121,9 +124,13 @@ pub fn start(me: u8, mask: u8, room: &mut [u8]) -> Started {
     let head = room.get_mut(..HEAD).ok_or(NO_ROOM)?;
     encode([0x01, 0x11, me, mask], head);
     head[HEAD - 1] = b'\n';
-    let node = Node {
+    Ok((fresh(me, mask), HEAD))
+}
+
+fn fresh(me: u8, members: u8) -> Node {
+    Node {
         me,
-        members: mask,
+        members,
         term: 0,
         vote: 0,
         last: 0,
@@ -132,8 +139,7 @@ pub fn start(me: u8, mask: u8, room: &mut [u8]) -> Started {
         votes: 0,
         next: [0; BOXES],
         matched: [0; BOXES],
-    };
-    Ok((node, HEAD))
+    }
 }
 
 /// How many entries are handed out; the orders are there for whoever takes them.

@@ -506,7 +506,7 @@ pub const BROKEN: [(&str, Make); 35] = [
 ];
 
 /// The bits of each number's field.
-fn width(place: usize) -> u64 {
+pub fn width(place: usize) -> u64 {
     match place {
         TERM => 32,
         LAST | COMMIT => 16,

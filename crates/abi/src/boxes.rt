@@ -11,7 +11,7 @@ ghost use Rattle.raft.specs.Receive.{receive as receiving};
 ghost use Rattle.abi.specs.Boxes.{box-range, box-in, stored-7, box-flat, sized-by, BoxFlat, box-event, StartFlat, box-begun, HandedFlat, box-handed};
 
 // Each number fits the field that it is for.
-fn box_range(n: &[u64; 22]) -> bool
+pub fn box_range(n: &[u64; 22]) -> bool
     ensures { λ r. ⌜ r ≡ box-range (now (n .entry)) ⌝ }
 {
     (n[0] < 256)
@@ -39,7 +39,7 @@ fn box_range(n: &[u64; 22]) -> bool
 }
 
 // The box that the numbers are.
-fn box_in(n: &[u64; 22]) -> Node
+pub fn box_in(n: &[u64; 22]) -> Node
     ensures { λ r. ⌜ r ≡ box-in (now (n .entry)) ⌝ }
 {
     let next = [
@@ -95,7 +95,7 @@ fn put_seven(n: &mut [u64; 22], at: usize, list: [u16; 7])
 }
 
 // Stores the box's numbers.
-fn put_box(n: &mut [u64; 22], b: Node)
+pub fn put_box(n: &mut [u64; 22], b: Node)
     ensures { λ _. ⌜ now (n .exit) ≡ box-flat b (now (n .entry)) ⌝ }
 {
     let next = b.next;

@@ -39,6 +39,7 @@ pub fn refused(n: Node, number: u8) -> Step
     }
 }
 
+// Four places for a line that tells no entry: what stands in them is never looked at.
 pub fn no_entries() -> [Entry; Node::ENTRIES] {
     let e = Entry { term: 0, order: 0 };
     [e; Node::ENTRIES]

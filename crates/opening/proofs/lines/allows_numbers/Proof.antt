@@ -1,0 +1,24 @@
+-- The clauses are the definition's own.
+use borrow.Author.Needs.{needs}
+use mathlib.Core.Path.{_≡_, refl, sym, ap, _∙_}
+use Rattle.opening.proofs.lines.allows_numbers.Statement.{statement}
+use Rattle.opening.proofs.lines.allows_numbers.Tie as tie
+
+is-vote-requires : tie.Need-is-vote-requires
+is-vote-requires c κs = search needs
+
+cast-result : tie.Need-cast-result
+cast-result c = search needs
+
+cast-result-2 : tie.Need-cast-result-2
+cast-result-2 c = search needs
+
+add-result : tie.Need-add-result
+add-result c = search needs
+
+returns : tie.Need-returns
+returns c = rw (c .before .before .before .before .before .before .before .before .before .before .is-vote .ensures)
+
+pub allows-numbers-spec : {M : Type 1} → statement M
+allows-numbers-spec =
+    tie.close (tie.spec is-vote-requires cast-result cast-result-2 add-result returns)

@@ -1,0 +1,92 @@
+-- The entries up to a place are handed over; the next goes behind them (`hand-next`).
+use borrow.Author.Needs.{needs}
+use native.Mathlib.Omega.{arith}
+use mathlib.Core.Path.{_≡_, refl, sym, ap, _∙_}
+use Prim.Native.Nat.{_-_, _≤_}
+use lib.ListN.{length, take}
+use Rattle.digits.specs.Room.{over}
+use Rattle.opening.specs.CodeLaws.{hand-none, hand-next}
+use Rattle.opening.proofs.whole.hand_over.Statement.{statement}
+use Rattle.opening.proofs.whole.hand_over.Tie as tie
+
+abbrev Inv-loop : tie.InvT-loop
+Inv-loop terms₀ orders₀ made taken last i₀ terms orders i =
+    (i ≤ last) × (length terms ≡ length terms₀) × (length orders ≡ length orders₀) × (terms ≡ over terms₀ 0 (take i made))
+    × (orders ≡ over orders₀ 0 (take i taken))
+
+abbrev μ-loop : tie.MeasureT-loop
+μ-loop terms₀ orders₀ made taken last i₀ terms orders i = last - i
+
+loop-holds : tie.Need-loop-holds Inv-loop μ-loop
+loop-holds c =
+    let entered = c in
+    (omega arith, refl, refl, hand-none (entered .args .terms .now) (entered .args .made .now), hand-none (entered .args .orders .now) (entered .args .taken .now))
+
+mul-terms : tie.Need-mul-terms Inv-loop μ-loop
+mul-terms c = search needs
+
+shared-slice-read-terms : tie.Need-shared-slice-read-terms Inv-loop μ-loop
+shared-slice-read-terms c = search needs
+
+mul-terms-2 : tie.Need-mul-terms-2 Inv-loop μ-loop
+mul-terms-2 c = search needs
+
+slice-write-terms : tie.Need-slice-write-terms Inv-loop μ-loop
+slice-write-terms c = search needs
+
+mul-orders : tie.Need-mul-orders Inv-loop μ-loop
+mul-orders c = search needs
+
+shared-slice-read-orders : tie.Need-shared-slice-read-orders Inv-loop μ-loop
+shared-slice-read-orders c = search needs
+
+mul-orders-2 : tie.Need-mul-orders-2 Inv-loop μ-loop
+mul-orders-2 c = search needs
+
+slice-write-orders : tie.Need-slice-write-orders Inv-loop μ-loop
+slice-write-orders c = search needs
+
+add-i : tie.Need-add-i Inv-loop μ-loop
+add-i c = search needs
+
+loop-less : tie.Need-loop-less Inv-loop μ-loop
+loop-less c = search needs
+
+loop-again : tie.Need-loop-again Inv-loop μ-loop
+loop-again c =
+    let entered = c .before .before .before .before in
+    (omega arith, search needs, search needs, hand-next (entered .args .terms .now) (entered .args .made .now) (c .before .before .before .loop .i) (omega arith) (omega arith) (c .before .before .before .loop .inv .3), hand-next (entered .args .orders .now) (entered .args .taken .now) (c .before .before .before .loop .i) (omega arith) (omega arith) (c .before .before .before .loop .inv .4))
+
+same-length : tie.Need-same-length Inv-loop μ-loop
+same-length c = search needs
+
+same-length-2 : tie.Need-same-length-2 Inv-loop μ-loop
+same-length-2 c = search needs
+
+returns : tie.Need-returns Inv-loop μ-loop
+returns c =
+    let entered = c .before .before in
+    let all : c .before .loop .i ≡ entered .args .last = omega arith in
+    (c .before .loop .inv .3 ∙ ap (λ k. over (entered .args .terms .now) 0 (take k (entered .args .made .now))) all, c .before .loop .inv .4 ∙ ap (λ k. over (entered .args .orders .now) 0 (take k (entered .args .taken .now))) all)
+
+pub hand-over-spec : {M : Type 1} → statement M
+hand-over-spec =
+    tie.close
+    (tie.spec
+    Inv-loop
+    μ-loop
+    loop-holds
+    mul-terms
+    shared-slice-read-terms
+    mul-terms-2
+    slice-write-terms
+    mul-orders
+    shared-slice-read-orders
+    mul-orders-2
+    slice-write-orders
+    add-i
+    loop-less
+    loop-again
+    same-length
+    same-length-2
+    returns)

@@ -1,0 +1,80 @@
+-- The calls: the structs that the code has, the lent log, and what a call leaves in each. Assumes nothing.
+use Prim.Native.Nat.{ℕ, zero, suc, _+_, _≤_}
+use mathlib.Core.Path.{_≡_}
+use mathlib.Core.Bool.{Bool, cond, _&&_, _||_}
+use mathlib.Core.List.{List, [], _∷_}
+use lib.Dec.{eqb, ltb, leb}
+use lib.ListN.{length}
+use Rattle.digits.specs.Room.{over}
+use Rattle.frames.specs.Limits.{log-limit, entry-limit}
+use Rattle.frames.specs.Message.{line-feed}
+use Rattle.frames.specs.Fields.{listed}
+use Rattle.raft.specs.Record.{State, fresh, is-vote}
+use Rattle.raft.specs.Journal.{Line}
+use Rattle.raft.specs.Lent.{entries-of, terms-of, orders-of}
+use Rattle.node.specs.declared.Node.{Node}
+use Rattle.node.specs.Calls.{state-of, node-of}
+use Rattle.opening.specs.declared.Told.{Told}
+use Rattle.opening.specs.declared.Replayed as declared
+use Rattle.opening.specs.declared.Opened as answers
+use Rattle.journal.specs.Opening.{Replayed, next, breaks, replayed, Opened, opened, headless, broken, opening}
+
+-- The bytes up to and with the first line feed; 0 where there is none.
+unfoldable pub first-line : List ℕ → ℕ
+first-line [] = 0
+first-line (b ∷ bytes) = cond (eqb b line-feed) 1 (cond (eqb (first-line bytes) 0) 0 (suc (first-line bytes)))
+
+-- The line that the struct tells.
+abbrev pub line-of : Told → Line
+line-of l = record { box = l .who; term = l .term; vote = l .vote; kept = l .kept; entries = listed (l .entries) 0 (l .count) }
+
+-- The rules of a line but the last, on the struct's numbers.
+abbrev pub allows-numbers : Node → Told → Bool
+allows-numbers b l =
+    eqb (l .who) (b .me) && (leb 1 (l .term) && leb (b .term) (l .term)) && is-vote (b .members) (l .vote)
+    && (ltb (b .term) (l .term) || eqb (b .vote) 0 || eqb (l .vote) (b .vote)) && leb (l .kept) (b .last)
+    && (leb (l .kept + l .count) log-limit && leb (l .count) entry-limit)
+
+-- One line over the record so far: the next record and its log, or 10 and all as it was.
+pub record Replaying : Type 0 where
+  pub answer : declared.Replayed
+  pub terms : List ℕ
+  pub orders : List ℕ
+
+unfoldable pub replaying-by : Replayed → Node → List ℕ → List ℕ → Replaying
+replaying-by (next t) b terms orders =
+    record { answer = record { refusal = 0; node = node-of t }; terms = over terms 0 (terms-of (t .log)); orders = over orders 0 (orders-of (t .log)) }
+replaying-by breaks b terms orders = record { answer = record { refusal = 10; node = b }; terms = terms; orders = orders }
+
+unfoldable pub replaying : Node → List ℕ → List ℕ → List ℕ → Replaying
+replaying b bytes terms orders = replaying-by (replayed (state-of b terms orders) bytes) b terms orders
+
+-- Opening: the record, its log and the byte count, or 11, or 10 and the line's number. "opening returns no record": zeros, and the lent log as it was.
+pub record Opens : Type 0 where
+  pub answer : answers.Opened
+  pub terms : List ℕ
+  pub orders : List ℕ
+
+abbrev pub none : Node
+none = node-of (fresh 0 0)
+
+-- What the replay of all lines leaves: the answer, and a log made aside that is the record's; of a log that is not handed over nothing is said.
+unfoldable pub Found : answers.Opened → List ℕ → List ℕ → Opened → Type 0
+Found r terms orders (opened s bytes) =
+    (r ≡ record { refusal = 0; node = node-of s; bytes = bytes; line = 0 }) × (entries-of terms orders 0 (length (s .log)) ≡ s .log)
+    × (length (s .log) ≤ log-limit)
+Found r terms orders headless = ⊥
+Found r terms orders (broken line) = r ≡ record { refusal = 10; node = none; bytes = 0; line = line }
+
+unfoldable pub opening-by : Opened → List ℕ → List ℕ → Opens
+opening-by (opened s bytes) terms orders =
+    record {
+      answer = record { refusal = 0; node = node-of s; bytes = bytes; line = 0 };
+      terms = over terms 0 (terms-of (s .log));
+      orders = over orders 0 (orders-of (s .log));
+    }
+opening-by headless terms orders = record { answer = record { refusal = 11; node = none; bytes = 0; line = 0 }; terms = terms; orders = orders }
+opening-by (broken line) terms orders = record { answer = record { refusal = 10; node = none; bytes = 0; line = line }; terms = terms; orders = orders }
+
+unfoldable pub opens : ℕ → List ℕ → List ℕ → List ℕ → Opens
+opens box bytes terms orders = opening-by (opening box bytes) terms orders

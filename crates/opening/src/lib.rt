@@ -1,0 +1,32 @@
+// A box's journal, opened: whole at once, or line by line for one that is longer than memory.
+mod lines;
+mod whole;
+
+use frames::Entry;
+use node::Node;
+pub use whole::open;
+pub use whole::replay;
+
+// What a journal line tells: "01, 10, box, term 4, vote 1, kept 2, count 1, entries".
+pub struct Told {
+    pub who: u8,
+    pub term: u32,
+    pub vote: u8,
+    pub kept: u16,
+    pub count: u8,
+    pub entries: [Entry; 4],
+}
+
+// One line's answer: 0 and the next record, or 10 and the record as it was.
+pub struct Replayed {
+    pub refusal: u8,
+    pub node: Node,
+}
+
+// Opening's answer: 0, the record and the bytes up to and with the last line feed; or 11; or 10 and the number of the line. On a refusal the record is all zeros.
+pub struct Opened {
+    pub refusal: u8,
+    pub node: Node,
+    pub bytes: usize,
+    pub line: usize,
+}

@@ -1,0 +1,117 @@
+// A journal's lines: where one ends, its form, its fields, and the rules that it keeps behind the record so far.
+use crate::Told;
+use frames::in_order;
+use node::Node;
+use rules::is_vote;
+use rules::term_at;
+ghost use mathlib.Core.Path.{_≡_};
+ghost use mathlib.Core.Bool.{true, cond};
+ghost use mathlib.Core.List.{List};
+ghost use Prim.Native.Nat.{ℕ, _+_, _≤_};
+ghost use lib.ListN.{length, drop};
+ghost use Rattle.frames.specs.Limits.{log-limit};
+ghost use Rattle.node.specs.Calls.{state-of};
+ghost use Rattle.journal.specs.Lines.{mask-in, count-in, head-shaped, line-shaped, line-in};
+ghost use Rattle.journal.specs.Opening.{is-head, allows};
+ghost use Rattle.opening.specs.Calls.{first-line, line-of, allows-numbers};
+
+// The place behind the first line feed from a place on, or that place where there is none.
+pub fn line_end(bytes: &[u8], at: usize) -> usize
+    requires { ⌜ at ≤ length (now bytes) ⌝ }
+    ensures { λ r. ⌜ r ≡ at + first-line (drop at (now (bytes .entry))) ⌝ }
+{
+    let mut i = at;
+    while i < bytes.len() {
+        if bytes[i] == 10 {
+            return i + 1;
+        }
+        i += 1;
+    }
+    at
+}
+
+// The form of a head: one line, version 01, kind 11, 4 bytes long.
+fn is_head_shaped(s: &[u8]) -> bool
+    ensures { λ r. ⌜ r ≡ head-shaped (now (s .entry)) ⌝ }
+{
+    if s.len() != 9 {
+        return false;
+    }
+    if !frames::is_line(s) {
+        return false;
+    }
+    (digits::get_u8(s, 0) == 1) & (digits::get_u8(s, 2) == 17)
+}
+
+// The mask of a head for the box asked for, a membership that holds it; 0 where the line is no such head.
+pub fn head_mask(me: u8, s: &[u8]) -> u8
+    ensures { λ r. ⌜ r ≡ cond (is-head me (now (s .entry))) (mask-in (now (s .entry))) 0 ⌝ }
+{
+    if !is_head_shaped(s) {
+        return 0;
+    }
+    let mask = digits::get_u8(s, 6);
+    if (digits::get_u8(s, 4) == me) & rules::is_membership(me, mask) {
+        return mask;
+    }
+    0
+}
+
+// The form of a line: one line, version 01, kind 10, as long as its count tells.
+pub fn is_shaped(s: &[u8]) -> bool
+    ensures { λ r. ⌜ r ≡ line-shaped (now (s .entry)) ⌝ }
+{
+    if s.len() < 23 {
+        return false;
+    }
+    if !frames::is_line(s) {
+        return false;
+    }
+    (digits::get_u8(s, 0) == 1)
+        & (digits::get_u8(s, 2) == 16)
+        & (s.len() == 23 + 24 * digits::get_u8(s, 20) as usize)
+}
+
+// The fields of a line, each from its place.
+pub fn told(s: &[u8]) -> Told
+    requires { ⌜ line-shaped (now s) ≡ true ⌝ }
+    requires { ⌜ count-in (now s) ≤ 4 ⌝ }
+    ensures { λ r. ⌜ line-of r ≡ line-in (now (s .entry)) ⌝ }
+    ensures { λ r. ⌜ r .count ≤ 4 ⌝ }
+{
+    let count = digits::get_u8(s, 20);
+    let entries = frames::entries(s, 22, count);
+    Told {
+        who: digits::get_u8(s, 4),
+        term: digits::get_u32(s, 6),
+        vote: digits::get_u8(s, 14),
+        kept: digits::get_u16(s, 16),
+        count,
+        entries,
+    }
+}
+
+// The rules but the last, which look at numbers alone.
+fn allows_numbers(n: Node, l: Told) -> bool
+    ensures { λ r. ⌜ r ≡ allows-numbers n l ⌝ }
+{
+    (l.who == n.me)
+        & ((1 <= l.term) & (n.term <= l.term))
+        & is_vote(n.members, l.vote)
+        & ((n.term < l.term) | (n.vote == 0) | (l.vote == n.vote))
+        & (l.kept <= n.last)
+        & ((l.kept as u32 + l.count as u32 <= 256) & (l.count <= 4))
+}
+
+// Every rule of a line behind the record so far.
+pub fn is_allowed(n: Node, l: Told, terms: &[u32]) -> bool
+    requires { ⌜ length (now terms) ≡ log-limit ⌝ }
+    requires { ⌜ l .count ≤ 4 ⌝ }
+    ensures { λ r. ⌜ ((orders : List ℕ) → r ≡ allows (state-of n (now (terms .entry)) orders) (line-of l)) ⌝ }
+{
+    if !allows_numbers(n, l) {
+        return false;
+    }
+    let entries = l.entries;
+    in_order(entries, l.count as usize, term_at(terms, l.kept), l.term)
+}
