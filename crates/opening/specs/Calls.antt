@@ -1,23 +1,23 @@
 -- The calls: the structs that the code has, the lent log, and what a call leaves in each. Assumes nothing.
 use Prim.Native.Nat.{ℕ, zero, suc, _+_, _≤_}
 use mathlib.Core.Path.{_≡_}
-use mathlib.Core.Bool.{Bool, cond, _&&_, _||_}
+use mathlib.Core.Bool.{Bool, cond, _&&_}
 use mathlib.Core.List.{List, [], _∷_}
-use lib.Dec.{eqb, ltb, leb}
+use lib.Dec.{eqb, leb}
 use lib.ListN.{length}
 use Rattle.digits.specs.Room.{over}
 use Rattle.frames.specs.Limits.{log-limit, entry-limit}
 use Rattle.frames.specs.Message.{line-feed}
 use Rattle.frames.specs.Fields.{listed}
-use Rattle.raft.specs.Record.{State, fresh, is-vote}
+use Rattle.raft.specs.Record.{fresh}
 use Rattle.raft.specs.Journal.{Line}
 use Rattle.raft.specs.Lent.{entries-of, terms-of, orders-of}
 use Rattle.node.specs.declared.Node.{Node}
-use Rattle.node.specs.Calls.{state-of, node-of}
+use Rattle.node.specs.Calls.{state-of, bare, node-of}
 use Rattle.opening.specs.declared.Told.{Told}
 use Rattle.opening.specs.declared.Replayed as declared
 use Rattle.opening.specs.declared.Opened as answers
-use Rattle.journal.specs.Opening.{Replayed, next, breaks, replayed, Opened, opened, headless, broken, opening}
+use Rattle.journal.specs.Opening.{is-of-box, term-holds, vote-is, vote-stays, Replayed, next, breaks, replayed, Opened, opened, headless, broken, opening}
 
 -- The bytes up to and with the first line feed; 0 where there is none.
 unfoldable pub first-line : List ℕ → ℕ
@@ -28,12 +28,11 @@ first-line (b ∷ bytes) = cond (eqb b line-feed) 1 (cond (eqb (first-line bytes
 abbrev pub line-of : Told → Line
 line-of l = record { box = l .who; term = l .term; vote = l .vote; kept = l .kept; entries = listed (l .entries) 0 (l .count) }
 
--- The rules of a line but the last, on the struct's numbers.
+-- The rules of a line but the last. The lengths are the structs' own counts; the others are the definition's, on the struct's record with no log lent.
 abbrev pub allows-numbers : Node → Told → Bool
 allows-numbers b l =
-    eqb (l .who) (b .me) && (leb 1 (l .term) && leb (b .term) (l .term)) && is-vote (b .members) (l .vote)
-    && (ltb (b .term) (l .term) || eqb (b .vote) 0 || eqb (l .vote) (b .vote)) && leb (l .kept) (b .last)
-    && (leb (l .kept + l .count) log-limit && leb (l .count) entry-limit)
+    is-of-box (bare b) (line-of l) && term-holds (bare b) (line-of l) && vote-is (bare b) (line-of l) && vote-stays (bare b) (line-of l)
+    && leb (l .kept) (b .last) && (leb (l .kept + l .count) log-limit && leb (l .count) entry-limit)
 
 -- One line over the record so far: the next record and its log, or 10 and all as it was.
 pub record Replaying : Type 0 where
