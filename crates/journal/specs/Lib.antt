@@ -9,6 +9,7 @@ pub mod OpeningLaws
 pub mod KeptLaws
 pub mod StepMoves
 pub mod StepLine
+pub mod LongestLaws
 pub mod ReplayLaws
 pub mod OpeningExactly
 pub mod TornLaws

@@ -3,6 +3,8 @@ mod lines;
 mod whole;
 
 use frames::Entry;
+pub use lines::is_head_shaped;
+pub use lines::line_end;
 use node::Node;
 pub use whole::open;
 pub use whole::replay;

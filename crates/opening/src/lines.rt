@@ -31,7 +31,7 @@ pub fn line_end(bytes: &[u8], at: usize) -> usize
 }
 
 // The form of a head: one line, version 01, kind 11, 4 bytes long.
-fn is_head_shaped(s: &[u8]) -> bool
+pub fn is_head_shaped(s: &[u8]) -> bool
     ensures { λ r. ⌜ r ≡ head-shaped (now (s .entry)) ⌝ }
 {
     if s.len() != 9 {

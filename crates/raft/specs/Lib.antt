@@ -18,4 +18,5 @@ pub mod SendLaws
 pub mod FitLaws
 pub mod ReceiveLaws
 pub mod ReceiveSends
+pub mod RefusalLaws
 pub mod Readings

@@ -1,0 +1,28 @@
+-- The tests are the definition's own.
+use borrow.Author.Needs.{needs}
+use mathlib.Core.Path.{_≡_, refl, sym, _∙_}
+use Rattle.console.specs.LineLaws.{letter-long, letter-by}
+use Rattle.console.proofs.lines.is_letter.Statement.{statement}
+use Rattle.console.proofs.lines.is_letter.Tie as tie
+
+returns : tie.Need-returns
+returns c =
+    let entered = c .before in
+    let if1 = c .if1 in
+    sym (letter-long (entered .args .letter) (entered .args .s .now) (if1 .taken))
+
+shared-slice-read-result : tie.Need-shared-slice-read-result
+shared-slice-read-result c = search needs
+
+shared-slice-read-result-2 : tie.Need-shared-slice-read-result-2
+shared-slice-read-result-2 c = search needs
+
+returns-2 : tie.Need-returns-2
+returns-2 c =
+    let entered = c .before .before .before in
+    let if1 = c .before .before .if1 in
+    sym (letter-by (entered .args .letter) (entered .args .s .now) (if1 .left))
+
+pub is-letter-spec : {M : Type 1} → statement M
+is-letter-spec =
+    tie.close (tie.spec returns shared-slice-read-result shared-slice-read-result-2 returns-2)

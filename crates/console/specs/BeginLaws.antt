@@ -1,0 +1,138 @@
+-- The first line: a head starts its box, any other is answered 12. Assumes nothing.
+use Prim.Native.Nat.{ℕ, _+_, _≤_, _<_}
+use native.Mathlib.Omega.{arith}
+use mathlib.Core.Path.{_≡_, refl, sym, ap, _∙_}
+use mathlib.Core.Bool.{Bool, true, false, cond, _&&_}
+use mathlib.Core.List.{List, []}
+use lib.Dec.{eqb, leb}
+use lib.ListN.{length}
+use borrow.Author.Tests.{eqb-true, eq-eqb, le-leb, lt-leb}
+use Rattle.digits.specs.Digits.{run}
+use Rattle.digits.specs.Room.{over}
+use Rattle.digits.specs.Tests.{and-left, and-right}
+use Rattle.frames.specs.Reading.{text-size, is-line, version, kind}
+use Rattle.frames.specs.ReadingLaws.{line-run}
+use Rattle.raft.specs.Record.{is-membership, fresh}
+use Rattle.raft.specs.Journal.{head}
+use Rattle.journal.specs.Lines.{box-in, mask-in, head-size, head-shaped}
+use Rattle.journal.specs.Opening.{is-head}
+use Rattle.node.specs.declared.Started.{Started}
+use Rattle.node.specs.Calls.{node-of, begun}
+use Rattle.node.specs.Calls as calls
+use Rattle.node.specs.EventLaws.{head-long}
+use Rattle.console.specs.declared.Begun.{Begun}
+use Rattle.console.specs.Session.{refusal-line, is-start}
+use Rattle.console.specs.Calls.{longest, starts, Beginning, none, beginning}
+
+-- a head's form has eight digits
+pub head-digits : (line : List ℕ) → head-shaped line ≡ true → run line ≡ 8
+unfolding head-shaped
+head-digits line h =
+    let long : eqb (length line) 9 ≡ true = and-right (is-line line && eqb (version line) 1 && eqb (kind line) 17) _ h in
+    let line' : is-line line ≡ true = and-left (is-line line) _ (and-left (is-line line && eqb (version line) 1) _ (and-left (is-line line && eqb (version line) 1 && eqb (kind line) 17) _ h)) in
+    omega (arith, line-run line line', eqb-true (length line) 9 long)
+
+-- what has not the form of a head starts nothing
+pub unshaped : (line : List ℕ) → head-shaped line ≡ false → is-start line ≡ false
+unfolding is-start is-head
+unshaped line h = rw h
+
+-- what has it starts a box exactly when its mask is a membership that holds the box
+pub shaped : (line : List ℕ) → head-shaped line ≡ true → is-start line ≡ is-membership (box-in line) (mask-in line)
+unfolding is-start is-head
+shaped line h = rw (h, eq-eqb (box-in line) (box-in line) refl)
+
+-- room that is too short for any answer
+pub begin-short : (line room : List ℕ) → length room < longest
+    → _≡_ {A = Beginning} (record { answer = record { fits = false; started = false; node = none; bytes = 0 }; room = room }) (beginning line room)
+unfolding beginning
+begin-short line room h = rw (lt-leb longest (length room) h)
+
+-- a start of no box hands out none, and leaves the room
+pub start-none : (room : List ℕ) {st : Started} {room' : List ℕ} → _≡_ {A = calls.Begun} (record { answer = st; room = room' }) (begun 0 0 room)
+    → (st .node ≡ none) × (room' ≡ room)
+unfolding begun is-membership
+start-none room e = (ap (λ (x : calls.Begun). x .answer .node) e, ap (λ (x : calls.Begun). x .room) e)
+
+-- a start by a line: as its form tells
+pub starts-none : (line room : List ℕ) → head-shaped line ≡ false → starts line room ≡ begun 0 0 room
+unfolding starts
+starts-none line room h = rw h
+
+pub starts-head : (line room : List ℕ) → head-shaped line ≡ true → starts line room ≡ begun (box-in line) (mask-in line) room
+unfolding starts
+starts-head line room h = rw h
+
+-- with room for a head, it starts a box or it is 12
+starts-by : (line room : List ℕ) → longest ≤ length room
+    → starts line room
+    ≡ cond (is-start line)
+    (record {
+      answer = record { refusal = 0; node = node-of (fresh (box-in line) (mask-in line)); bytes = length (head (box-in line) (mask-in line)) };
+      room = over room 0 (head (box-in line) (mask-in line));
+    })
+    (record { answer = record { refusal = 12; node = none; bytes = 0 }; room = room })
+unfolding begun is-membership
+starts-by line room h = go (head-shaped line) refl
+  where
+    go : (b : Bool) → head-shaped line ≡ b
+        → starts line room
+        ≡ cond (is-start line)
+        (record {
+          answer = record { refusal = 0; node = node-of (fresh (box-in line) (mask-in line)); bytes = length (head (box-in line) (mask-in line)) };
+          room = over room 0 (head (box-in line) (mask-in line));
+        })
+        (record { answer = record { refusal = 12; node = none; bytes = 0 }; room = room })
+    go true p =
+        rw (
+          starts-head line room p,
+          shaped line p,
+          le-leb (length (head (box-in line) (mask-in line))) (length room) (omega (arith, head-long (box-in line) (mask-in line))),
+        )
+    go false p = rw (starts-none line room p, unshaped line p)
+
+module _ (line room : List ℕ) (h : longest ≤ length room) (st : Started) {room' : List ℕ}
+    (e : _≡_ {A = calls.Begun} (record { answer = st; room = room' }) (starts line room)) where
+  -- a start that is refused: 12 is printed
+  pub start-bad : (st .refusal ≡ 0 → ⊥) → {room'' : List ℕ} {bytes : ℕ} → room'' ≡ over room' 0 (refusal-line 12) → bytes ≡ length (refusal-line 12)
+      → _≡_ {A = Beginning} (record { answer = record { fits = true; started = false; node = st .node; bytes = bytes }; room = room'' })
+      (beginning line room)
+  unfolding beginning
+  start-bad z {room''} {bytes} r l = go (is-start line) refl (e ∙ starts-by line room h)
+    where
+      go : (b : Bool) → is-start line ≡ b
+          → _≡_ {A = calls.Begun} (record { answer = st; room = room' })
+          (cond (is-start line)
+          (record {
+            answer = record { refusal = 0; node = node-of (fresh (box-in line) (mask-in line)); bytes = length (head (box-in line) (mask-in line)) };
+            room = over room 0 (head (box-in line) (mask-in line));
+          })
+          (record { answer = record { refusal = 12; node = none; bytes = 0 }; room = room }))
+          → _≡_ {A = Beginning} (record { answer = record { fits = true; started = false; node = st .node; bytes = bytes }; room = room'' })
+          (beginning line room)
+      go true p q = absurd (z (ap (λ (x : calls.Begun). x .answer .refusal) (rw p at q)))
+      go false p q =
+          let q' = rw p at q in
+          rw (le-leb longest (length room) h, p, r, l, ap (λ (x : calls.Begun). x .answer) q', ap (λ (x : calls.Begun). x .room) q')
+
+  -- one that is done: the fresh box and its head
+  pub start-done : st .refusal ≡ 0
+      → _≡_ {A = Beginning} (record { answer = record { fits = true; started = true; node = st .node; bytes = st .bytes }; room = room' })
+      (beginning line room)
+  unfolding beginning
+  start-done z = go (is-start line) refl (e ∙ starts-by line room h)
+    where
+      go : (b : Bool) → is-start line ≡ b
+          → _≡_ {A = calls.Begun} (record { answer = st; room = room' })
+          (cond (is-start line)
+          (record {
+            answer = record { refusal = 0; node = node-of (fresh (box-in line) (mask-in line)); bytes = length (head (box-in line) (mask-in line)) };
+            room = over room 0 (head (box-in line) (mask-in line));
+          })
+          (record { answer = record { refusal = 12; node = none; bytes = 0 }; room = room }))
+          → _≡_ {A = Beginning} (record { answer = record { fits = true; started = true; node = st .node; bytes = st .bytes }; room = room' })
+          (beginning line room)
+      go true p q =
+          let q' = rw p at q in
+          rw (le-leb longest (length room) h, p, ap (λ (x : calls.Begun). x .answer) q', ap (λ (x : calls.Begun). x .room) q')
+      go false p q = absurd (omega (arith, z, ap (λ (x : calls.Begun). x .answer .refusal) (rw p at q)))

@@ -1,0 +1,7 @@
+-- A session: what a box on lines of text prints; the calls; then what the code's proofs use.
+pub mod Session
+pub mod Calls
+pub mod LineLaws
+pub mod TextLaws
+pub mod SayingLaws
+pub mod BeginLaws

@@ -1,0 +1,29 @@
+// A box on lines of text: 01's small program but for its reading and writing.
+mod lines;
+mod text;
+
+pub use lines::answer;
+pub use lines::begin;
+use node::Node;
+
+// The first line's answer: false and nothing done where the room is shorter than the longest answer; whether a box was started; how many bytes are to be printed.
+pub struct Begun {
+    pub fits: bool,
+    pub started: bool,
+    pub node: Node,
+    pub bytes: usize,
+}
+
+// A later line's answer: as above, with the next box.
+pub struct Answered {
+    pub fits: bool,
+    pub node: Node,
+    pub bytes: usize,
+}
+
+// What was made of a block of lines: the next box, how many bytes of whole lines were taken, and how many are to be printed.
+pub struct Taken {
+    pub node: Node,
+    pub taken: usize,
+    pub bytes: usize,
+}

@@ -1,0 +1,144 @@
+// A line, and what the box answers.
+use crate::Answered;
+use crate::Begun;
+use crate::text::put;
+use crate::text::put_refusal;
+use node::Node;
+use node::Started;
+use node::Step;
+ghost use mathlib.Core.Path.{_≡_};
+ghost use mathlib.Core.Bool.{true};
+ghost use Rattle.node.specs.Calls.{Called, call};
+ghost use Rattle.node.specs.Calls as calls;
+ghost use Rattle.console.specs.Session as definition;
+ghost use Rattle.console.specs.Calls.{starts, Beginning, beginning, Saying, saying};
+
+fn is_letter(letter: u8, s: &[u8]) -> bool
+    ensures { λ r. ⌜ r ≡ definition.is-letter letter (now (s .entry)) ⌝ }
+{
+    if s.len() != 2 {
+        return false;
+    }
+    (s[0] == letter) & (s[1] == 10)
+}
+
+fn is_order(s: &[u8]) -> bool
+    ensures { λ r. ⌜ r ≡ definition.is-order (now (s .entry)) ⌝ }
+{
+    if s.len() != 18 {
+        return false;
+    }
+    if s[0] != b'o' {
+        return false;
+    }
+    frames::is_line(&s[1..])
+}
+
+fn order_in(s: &[u8]) -> u64
+    requires { ⌜ definition.is-order (now s) ≡ true ⌝ }
+    ensures { λ r. ⌜ r ≡ definition.order-in (now (s .entry)) ⌝ }
+{
+    digits::get_u64(&s[1..], 0)
+}
+
+// The event that a line asks for.
+fn step(
+    n: Node,
+    line: &[u8],
+    terms: &mut [u32; Node::LOG],
+    orders: &mut [u64; Node::LOG],
+    journal: &mut [u8],
+    room: &mut [u8],
+) -> Step
+    ensures { λ r. ⌜ _≡_ {A = Called} (record { answer = r; terms = now (terms .exit); orders = now (orders .exit); journal = now (journal .exit); room = now (room .exit) }) (call (definition.event-of (now (line .entry))) n (now (terms .entry)) (now (orders .entry)) (now (journal .entry)) (now (room .entry))) ⌝ }
+{
+    if is_letter(b't', line) {
+        return n.timeout(terms, orders, journal, room);
+    }
+    if is_letter(b'p', line) {
+        return n.prompt(terms, orders, journal, room);
+    }
+    if is_order(line) {
+        return n.order(order_in(line), terms, orders, journal, room);
+    }
+    n.receive(line, terms, orders, journal, room)
+}
+
+// A line with its line feed, at a box: its journal line and messages, or its refusal, at the room's start.
+pub fn answer(
+    n: Node,
+    line: &[u8],
+    terms: &mut [u32; Node::LOG],
+    orders: &mut [u64; Node::LOG],
+    room: &mut [u8],
+) -> Answered
+    ensures { λ r. ⌜ _≡_ {A = Saying} (record { answer = r; terms = now (terms .exit); orders = now (orders .exit); room = now (room .exit) }) (saying n (now (line .entry)) (now (terms .entry)) (now (orders .entry)) (now (room .entry))) ⌝ }
+{
+    if room.len() < 905 {
+        return Answered {
+            fits: false,
+            node: n,
+            bytes: 0,
+        };
+    }
+    let mut messages = [0u8; 786];
+    let done = step(n, line, terms, orders, room, &mut messages);
+    let node = done.node;
+    if done.refusal == 0 {
+        put(room, done.line, &messages[..done.sent]);
+        return Answered {
+            fits: true,
+            node,
+            bytes: done.line + done.sent,
+        };
+    }
+    let bytes = put_refusal(room, done.refusal);
+    Answered {
+        fits: true,
+        node,
+        bytes,
+    }
+}
+
+// Starts the box of a head; a line that has not the form of one starts none.
+fn start(line: &[u8], room: &mut [u8]) -> Started
+    ensures { λ r. ⌜ _≡_ {A = calls.Begun} (record { answer = r; room = now (room .exit) }) (starts (now (line .entry)) (now (room .entry))) ⌝ }
+{
+    if !opening::is_head_shaped(line) {
+        return Node::start(0, 0, room);
+    }
+    Node::start(digits::get_u8(line, 4), digits::get_u8(line, 6), room)
+}
+
+// The first line: it starts the box whose head it is.
+pub fn begin(line: &[u8], room: &mut [u8]) -> Begun
+    ensures { λ r. ⌜ _≡_ {A = Beginning} (record { answer = r; room = now (room .exit) }) (beginning (now (line .entry)) (now (room .entry))) ⌝ }
+{
+    if room.len() < 905 {
+        let none = Node::start(0, 0, room);
+        let node = none.node;
+        return Begun {
+            fits: false,
+            started: false,
+            node,
+            bytes: 0,
+        };
+    }
+    let done = start(line, room);
+    let node = done.node;
+    if done.refusal != 0 {
+        let bytes = put_refusal(room, 12);
+        return Begun {
+            fits: true,
+            started: false,
+            node,
+            bytes,
+        };
+    }
+    Begun {
+        fits: true,
+        started: true,
+        node,
+        bytes: done.bytes,
+    }
+}

@@ -1,0 +1,95 @@
+-- 01's table of refusals has no number 0: whoever refuses says so. Assumes nothing.
+use Prim.Native.Nat.{ℕ, _≤_}
+use native.Mathlib.Omega.{arith}
+use mathlib.Core.Path.{_≡_}
+use mathlib.Core.Bool.{Bool, true, false, cond, _&&_}
+use mathlib.Core.List.{List}
+use lib.Dec.{eqb, ltb, leb}
+use Rattle.frames.specs.declared.Entry.{Entry}
+use Rattle.frames.specs.Limits.{log-limit}
+use Rattle.frames.specs.Message.{Message, vote-request, vote-answer, append, append-answer}
+use Rattle.frames.specs.Reading.{Reading, frame, refused, reading}
+use Rattle.raft.specs.Majority.{bit, majority}
+use Rattle.raft.specs.Record.{State, leader, last-index}
+use Rattle.raft.specs.Step.{Outcome, done, refuse, last-of-terms, won, timeout, order, prompt}
+use Rattle.raft.specs.Receive.{taken, counts, counted, lacks, cuts-committed, accept, on-vote-request, on-vote-answer, join, on-append, answered, hear, on-append-answer, deliver, is-for, sender, receiver, arrive, arrive-read, receive}
+
+-- a refusal's number is at least 1
+unfoldable pub Numbered : Outcome → Type 0
+Numbered (done t messages) = Unit {0}
+Numbered (refuse number) = 1 ≤ number
+
+pub ends : (t : State) (messages : List Message) → Numbered (done t messages)
+unfolding Numbered
+ends t messages = tt
+
+pub numbers : (number : ℕ) → 1 ≤ number → Numbered (refuse number)
+unfolding Numbered
+numbers number h = h
+
+pub at-least-one : (number : ℕ) → Numbered (refuse number) → 1 ≤ number
+unfolding Numbered
+at-least-one number h = h
+
+-- whichever way it goes
+pub by-test : (b : Bool) (x y : Outcome) → Numbered x → Numbered y → Numbered (cond b x y)
+by-test true x y p q = p
+by-test false x y p q = q
+
+-- 9 alone
+pub timeout-numbered : (s : State) → Numbered (timeout s)
+unfolding timeout won
+timeout-numbered s =
+    by-test (eqb (s .role) leader) _ _ (ends _ _)
+    (by-test (eqb (s .term) last-of-terms) _ _ (numbers 9 (omega arith))
+    (by-test (majority (s .members) (bit (s .me))) _ _ (ends _ _) (ends _ _)))
+
+-- 3, then 4
+pub order-numbered : (o : ℕ) (s : State) → Numbered (order o s)
+unfolding order
+order-numbered o s =
+    by-test (eqb (s .role) leader) _ _ (by-test (leb log-limit (last-index s)) _ _ (numbers 4 (omega arith)) (ends _ _))
+    (numbers 3 (omega arith))
+
+pub prompt-numbered : (s : State) → Numbered (prompt s)
+unfolding prompt
+prompt-numbered s = by-test (eqb (s .role) leader) _ _ (ends _ _) (numbers 3 (omega arith))
+
+counted-numbered : (s : State) → Numbered (counted s)
+unfolding counted won
+counted-numbered s = by-test (majority (s .members) (s .votes)) _ _ (ends _ _) (ends _ _)
+
+-- 7 alone
+accept-numbered : (s : State) (from index commit : ℕ) (es : List Entry) → Numbered (accept s from index commit es)
+accept-numbered s from index commit es = by-test (cuts-committed s index es) _ _ (numbers 7 (omega arith)) (ends _ _)
+
+-- 6, then 7
+join-numbered : (s : State) (from index prior commit : ℕ) (es : List Entry) → Numbered (join s from index prior commit es)
+unfolding join
+join-numbered s from index prior commit es =
+    by-test (eqb (s .role) leader) _ _ (numbers 6 (omega arith))
+    (by-test (lacks (s .log) index prior) _ _ (ends _ _) (accept-numbered s from index commit es))
+
+-- 8 alone
+hear-numbered : (s : State) (from reply index : ℕ) → Numbered (hear s from reply index)
+unfolding hear answered
+hear-numbered s from reply index = by-test (eqb reply 1 && ltb (last-index s) index) _ _ (numbers 8 (omega arith)) (ends _ _)
+
+deliver-numbered : (m : Message) (s : State) → Numbered (deliver m s)
+unfolding deliver on-vote-request on-vote-answer on-append on-append-answer
+deliver-numbered (vote-request from to term index prior) s = ends _ _
+deliver-numbered (vote-answer from to term said) s = by-test (counts s term said) _ _ (counted-numbered _) (ends _ _)
+deliver-numbered (append from to term index prior commit es) s =
+    by-test (ltb term (s .term)) _ _ (ends _ _) (join-numbered (taken term s) from index prior commit es)
+deliver-numbered (append-answer from to term said index) s =
+    by-test (leb (s .term) term && eqb (taken term s .role) leader) _ _ (hear-numbered (taken term s) from said index) (ends _ _)
+
+-- 1 and 2
+read-numbered : (r : Reading) (s : State) → Numbered (arrive-read r s)
+unfolding arrive-read arrive
+read-numbered (frame m) s = by-test (is-for s (sender m) (receiver m)) _ _ (deliver-numbered m s) (numbers 2 (omega arith))
+read-numbered refused s = numbers 1 (omega arith)
+
+pub receive-numbered : (bytes : List ℕ) (s : State) → Numbered (receive bytes s)
+unfolding receive
+receive-numbered bytes s = read-numbered (reading bytes) s
