@@ -6,7 +6,7 @@ use mathlib.Core.Bool.{Bool, true, false, cond, _&&_}
 use mathlib.Core.List.{List, []}
 use lib.Dec.{eqb, leb}
 use lib.ListN.{length}
-use borrow.Author.Tests.{eqb-true, eq-eqb, le-leb, lt-leb}
+use borrow.Author.Tests.{eqb-true, eq-eqb, leb-true, le-leb, lt-leb}
 use Rattle.digits.specs.Digits.{run}
 use Rattle.digits.specs.Room.{over}
 use Rattle.digits.specs.Tests.{and-left, and-right}
@@ -16,12 +16,14 @@ use Rattle.raft.specs.Record.{is-membership, fresh}
 use Rattle.raft.specs.Journal.{head}
 use Rattle.journal.specs.Lines.{box-in, mask-in, head-size, head-shaped}
 use Rattle.journal.specs.Opening.{is-head}
+use Rattle.node.specs.declared.Node.{Node}
 use Rattle.node.specs.declared.Started.{Started}
 use Rattle.node.specs.Calls.{node-of, begun}
 use Rattle.node.specs.Calls as calls
 use Rattle.node.specs.EventLaws.{head-long}
 use Rattle.console.specs.declared.Begun.{Begun}
 use Rattle.console.specs.Session.{refusal-line, is-start}
+use Rattle.console.specs.TextLaws.{refusal-most}
 use Rattle.console.specs.Calls.{longest, starts, Beginning, none, beginning}
 
 -- a head's form has eight digits
@@ -43,10 +45,10 @@ unfolding is-start is-head
 shaped line h = rw (h, eq-eqb (box-in line) (box-in line) refl)
 
 -- room that is too short for any answer
-pub begin-short : (line room : List ℕ) → length room < longest
-    → _≡_ {A = Beginning} (record { answer = record { fits = false; started = false; node = none; bytes = 0 }; room = room }) (beginning line room)
+pub begin-short : (line room : List ℕ) → length room < longest → {node : Node} {room' : List ℕ} → (node ≡ none) × (room' ≡ room)
+    → _≡_ {A = Beginning} (record { answer = record { fits = false; started = false; node = node; bytes = 0 }; room = room' }) (beginning line room)
 unfolding beginning
-begin-short line room h = rw (lt-leb longest (length room) h)
+begin-short line room h e = rw (lt-leb longest (length room) h, e .0, e .1)
 
 -- a start of no box hands out none, and leaves the room
 pub start-none : (room : List ℕ) {st : Started} {room' : List ℕ} → _≡_ {A = calls.Begun} (record { answer = st; room = room' }) (begun 0 0 room)
@@ -136,3 +138,17 @@ module _ (line room : List ℕ) (h : longest ≤ length room) (st : Started) {ro
           let q' = rw p at q in
           rw (le-leb longest (length room) h, p, ap (λ (x : calls.Begun). x .answer) q', ap (λ (x : calls.Begun). x .room) q')
       go false p q = absurd (omega (arith, z, ap (λ (x : calls.Begun). x .answer .refusal) (rw p at q)))
+
+-- what is printed fits
+begin-most : (line room : List ℕ) → beginning line room .answer .bytes ≤ length room
+unfolding beginning
+begin-most line room = go (leb longest (length room)) refl (is-start line) refl
+  where
+    go : (b : Bool) → leb longest (length room) ≡ b → (m : Bool) → is-start line ≡ m → beginning line room .answer .bytes ≤ length room
+    go true e true p = rw (e, p) (omega (arith, leb-true longest (length room) e, head-long (box-in line) (mask-in line)))
+    go true e false p = rw (e, p) (omega (arith, leb-true longest (length room) e, refusal-most 12))
+    go false e m p = rw e (omega arith)
+
+pub begin-within : (line room : List ℕ) (x : Begun) {room' : List ℕ} → _≡_ {A = Beginning} (record { answer = x; room = room' }) (beginning line room)
+    → x .bytes ≤ length room
+begin-within line room x e = omega (arith, ap (λ (b : Beginning). b .answer .bytes) e, begin-most line room)

@@ -1,15 +1,15 @@
 -- The calls: what an answer to a line leaves in everything lent. Assumes nothing.
 use Prim.Native.Nat.{ℕ, _+_, _-_}
 use mathlib.Core.Bool.{Bool, true, false, cond}
-use mathlib.Core.List.{List, [], _∷_}
+use mathlib.Core.List.{List, [], _∷_, _++_}
 use lib.Dec.{leb}
-use lib.ListN.{length}
+use lib.ListN.{length, take, drop}
 use Rattle.digits.specs.Room.{over}
 use Rattle.raft.specs.Record.{State, fresh}
 use Rattle.raft.specs.Lent.{terms-of, orders-of}
 use Rattle.raft.specs.Journal.{head}
 use Rattle.raft.specs.Step.{Outcome, done, refuse}
-use Rattle.journal.specs.Lines.{box-in, mask-in, head-shaped}
+use Rattle.journal.specs.Lines.{lines, box-in, mask-in, head-shaped}
 use Rattle.node.specs.declared.Node.{Node}
 use Rattle.node.specs.Calls.{state-of, node-of, begun}
 use Rattle.node.specs.Calls as calls
@@ -85,3 +85,34 @@ unfoldable pub saying : Node → List ℕ → List ℕ → List ℕ → List ℕ
 saying b line terms orders room =
     cond (leb longest (length room)) (said (outcome-of line (state-of b terms orders)) b terms orders room)
     (record { answer = record { fits = false; node = b; bytes = 0 }; terms = terms; orders = orders; room = room })
+
+-- ---- a block of lines
+
+pub record Telling : Type 0 where
+  pub answer : Taken
+  pub terms : List ℕ
+  pub orders : List ℕ
+  pub room : List ℕ
+
+-- One more line is taken, and its answer stands behind what was printed before.
+abbrev pub behind : Telling → List ℕ → Saying → Telling
+behind x line s =
+    record {
+      answer = record { node = s .answer .node; taken = x .answer .taken + length line; bytes = x .answer .bytes + s .answer .bytes };
+      terms = s .terms;
+      orders = s .orders;
+      room = take (x .answer .bytes) (x .room) ++ s .room;
+    }
+
+unfoldable pub told : Telling → List ℕ → Telling
+told x line = behind x line (saying (x .answer .node) line (x .terms) (x .orders) (drop (x .answer .bytes) (x .room)))
+
+-- Line by line, for as long as the room that is left holds the longest answer.
+unfoldable pub tell : Telling → List (List ℕ) → Telling
+tell x [] = x
+tell x (line ∷ rest) = cond (leb longest (length (x .room) - x .answer .bytes)) (tell (told x line) rest) x
+
+-- The whole lines of some bytes.
+unfoldable pub telling : Node → List ℕ → List ℕ → List ℕ → List ℕ → Telling
+telling b bytes terms orders room =
+    tell (record { answer = record { node = b; taken = 0; bytes = 0 }; terms = terms; orders = orders; room = room }) (lines bytes)

@@ -5,3 +5,4 @@ pub mod LineLaws
 pub mod TextLaws
 pub mod SayingLaws
 pub mod BeginLaws
+pub mod BlockLaws

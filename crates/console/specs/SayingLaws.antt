@@ -67,7 +67,7 @@ call-outcome line b terms orders journal room = go (good (state-of b terms order
     go false e = rw e
 
 -- a line that is done has written no more than a step can
-outcome-short : (line : List ℕ) (s t : State) (ms : List Message) → outcome-of line s ≡ done t ms → Longest s t ms
+pub outcome-short : (line : List ℕ) (s t : State) (ms : List Message) → outcome-of line s ≡ done t ms → Longest s t ms
 unfolding outcome-of
 outcome-short line s t ms e = go (good s) refl e
   where

@@ -1,7 +1,9 @@
 // A box on lines of text: 01's small program but for its reading and writing.
+mod blocks;
 mod lines;
 mod text;
 
+pub use blocks::answer_lines;
 pub use lines::answer;
 pub use lines::begin;
 use node::Node;

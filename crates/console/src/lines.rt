@@ -8,6 +8,8 @@ use node::Started;
 use node::Step;
 ghost use mathlib.Core.Path.{_≡_};
 ghost use mathlib.Core.Bool.{true};
+ghost use Prim.Native.Nat.{_≤_};
+ghost use lib.ListN.{length};
 ghost use Rattle.node.specs.Calls.{Called, call};
 ghost use Rattle.node.specs.Calls as calls;
 ghost use Rattle.console.specs.Session as definition;
@@ -113,6 +115,7 @@ fn start(line: &[u8], room: &mut [u8]) -> Started
 // The first line: it starts the box whose head it is.
 pub fn begin(line: &[u8], room: &mut [u8]) -> Begun
     ensures { λ r. ⌜ _≡_ {A = Beginning} (record { answer = r; room = now (room .exit) }) (beginning (now (line .entry)) (now (room .entry))) ⌝ }
+    ensures { λ r. ⌜ r .bytes ≤ length (now (room .entry)) ⌝ }
 {
     if room.len() < 905 {
         let none = Node::start(0, 0, room);

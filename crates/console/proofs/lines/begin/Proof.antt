@@ -2,7 +2,8 @@
 use borrow.Author.Needs.{needs}
 use mathlib.Core.Path.{_≡_, refl, sym, ap, _∙_}
 use native.Mathlib.Omega.{arith}
-use Rattle.console.specs.BeginLaws.{begin-short, start-none, start-bad, start-done}
+use Rattle.console.specs.BeginLaws.{begin-short, start-none, start-bad, start-done, begin-within}
+use Rattle.console.specs.Calls.{Beginning, beginning}
 use Rattle.console.proofs.lines.begin.Statement.{statement}
 use Rattle.console.proofs.lines.begin.Tie as tie
 
@@ -15,10 +16,10 @@ same-length c = search needs
 returns : tie.Need-returns
 returns c =
     let entered = c .before .before .before .before .before .before .before .before in
-    let start = c .before .before .before .start in
     let if1 = c .before .before .before .before .before .if1 in
-    let none = start-none (entered .args .room .now) (start .ensures) in
-    rw (none .0, none .1) (begin-short (entered .args .line .now) (entered .args .room .now) (if1 .taken))
+    let start = c .before .before .before .start in
+    let whole = begin-short (entered .args .line .now) (entered .args .room .now) (if1 .taken) (start-none (entered .args .room .now) (start .ensures)) in
+    (whole, begin-within (entered .args .line .now) (entered .args .room .now) _ whole)
 
 start-requires-2 : tie.Need-start-requires-2
 start-requires-2 c κs = search needs
@@ -36,7 +37,8 @@ returns-2 c =
     let start2 = c .before .before .before .before .before .before .before .before .before .start2 in
     let if2 = c .before .before .before .before .if2 in
     let put-refusal = c .before .before .put-refusal in
-    start-bad (entered .args .line .now) (entered .args .room .now) (omega (arith, if1 .left)) _ (start2 .ensures) (if2 .taken) (put-refusal .ensures .1) (put-refusal .ensures .0)
+    let whole = start-bad (entered .args .line .now) (entered .args .room .now) (omega (arith, if1 .left)) _ (start2 .ensures) (if2 .taken) (put-refusal .ensures .1) (put-refusal .ensures .0) in
+    (whole, begin-within (entered .args .line .now) (entered .args .room .now) _ whole)
 
 same-length-3 : tie.Need-same-length-3
 same-length-3 c = search needs
@@ -47,7 +49,8 @@ returns-3 c =
     let if1 = c .before .before .before .before .before .before .before .if1 in
     let start2 = c .before .before .before .before .before .start2 in
     let if2 = c .if2 in
-    start-done (entered .args .line .now) (entered .args .room .now) (omega (arith, if1 .left)) _ (start2 .ensures) (if2 .left)
+    let whole = start-done (entered .args .line .now) (entered .args .room .now) (omega (arith, if1 .left)) _ (start2 .ensures) (if2 .left) in
+    (whole, begin-within (entered .args .line .now) (entered .args .room .now) _ whole)
 
 pub begin-spec : {M : Type 1} → statement M
 begin-spec =

@@ -1,0 +1,88 @@
+-- Each turn takes a line; what is taken never passes the bytes.
+use borrow.Author.Needs.{needs}
+use lib.ListN.{drop, length-take, length-drop}
+use native.Mathlib.Omega.{arith}
+use Prim.Native.Nat.{_-_, _≤_}
+use mathlib.Core.Path.{_≡_}
+use lib.ListN.{length}
+use Rattle.jargulmet.proofs.answer_all.Statement.{statement}
+use Rattle.jargulmet.proofs.answer_all.Tie as tie
+
+abbrev Inv-loop : tie.InvT-loop
+Inv-loop bytes terms₀ orders₀ output₀ node₀ at₀ terms orders output node at = (at ≤ length bytes) × (length output ≡ length output₀)
+
+abbrev μ-loop : tie.MeasureT-loop
+μ-loop bytes terms₀ orders₀ output₀ node₀ at₀ terms orders output node at = length bytes - at
+
+loop-holds : tie.Need-loop-holds Inv-loop μ-loop
+loop-holds c = search needs
+
+sub-answer-lines : tie.Need-sub-answer-lines Inv-loop μ-loop
+sub-answer-lines c = search needs
+
+part-answer-lines-start : tie.Need-part-answer-lines-start Inv-loop μ-loop
+part-answer-lines-start c = search needs
+
+part-answer-lines-end : tie.Need-part-answer-lines-end Inv-loop μ-loop
+part-answer-lines-end c = search needs
+
+answer-lines-requires : tie.Need-answer-lines-requires Inv-loop μ-loop
+answer-lines-requires c κs = search needs
+
+same-length : tie.Need-same-length Inv-loop μ-loop
+same-length c = search needs
+
+returns : tie.Need-returns Inv-loop μ-loop
+returns c = search needs
+
+add-at : tie.Need-add-at Inv-loop μ-loop
+add-at c =
+    let answer-lines = c .before .before .before .before .before .before .answer-lines in
+    let entered = c .before .before .before .before .before .before .before .before .before .before .before .before .before .before in
+    let loop = c .before .before .before .before .before .before .before .before .before .before .before .loop in
+    omega (arith, answer-lines .ensures .1 .0, length-take (length (entered .args .bytes .now) - loop .at) (drop (loop .at) (entered .args .bytes .now)), length-drop (loop .at) (entered .args .bytes .now), loop .inv .0, entered .good)
+
+slice-reshare-prefix-write-all : tie.Need-slice-reshare-prefix-write-all Inv-loop μ-loop
+slice-reshare-prefix-write-all c = search needs
+
+slice-aggregate-write-all : tie.Need-slice-aggregate-write-all Inv-loop μ-loop
+slice-aggregate-write-all c =
+    let answer-lines = c .before .before .before .before .before .before .before .answer-lines in
+    simp length-take (omega (arith, answer-lines .ensures .1 .1, answer-lines .kept .1 .1 .1 .1 .0))
+
+write-all-requires : tie.Need-write-all-requires Inv-loop μ-loop
+write-all-requires c κs = search needs
+
+same-length-2 : tie.Need-same-length-2 Inv-loop μ-loop
+same-length-2 c = search needs
+
+returns-2 : tie.Need-returns-2 Inv-loop μ-loop
+returns-2 c = search needs
+
+loop-less : tie.Need-loop-less Inv-loop μ-loop
+loop-less c = search needs
+
+loop-again : tie.Need-loop-again Inv-loop μ-loop
+loop-again c = search needs
+
+pub answer-all-spec : {M : Type 1} → statement M
+answer-all-spec =
+    tie.close
+    (tie.spec
+    Inv-loop
+    μ-loop
+    loop-holds
+    sub-answer-lines
+    part-answer-lines-start
+    part-answer-lines-end
+    answer-lines-requires
+    same-length
+    returns
+    add-at
+    slice-reshare-prefix-write-all
+    slice-aggregate-write-all
+    write-all-requires
+    same-length-2
+    returns-2
+    loop-less
+    loop-again)

@@ -1,0 +1,130 @@
+-- What is held never passes the block, nor what is taken what is held.
+use borrow.Author.Needs.{needs}
+use native.Mathlib.Omega.{arith}
+use Prim.Native.Nat.{_-_, _≤_}
+use mathlib.Core.Path.{_≡_}
+use lib.ListN.{length, take, drop, length-take, length-drop}
+use Rattle.jargulmet.proofs.later_lines.Statement.{statement}
+use Rattle.jargulmet.proofs.later_lines.Tie as tie
+
+abbrev Inv-loop : tie.InvT-loop
+Inv-loop input₀ from filled terms₀ orders₀ output₀ node₀ at₀ held₀ turns₀ input terms orders output node at held turns =
+    (at ≤ held) × (held ≤ length input) × (length input ≡ length input₀) × (length output ≡ length output₀)
+
+abbrev μ-loop : tie.MeasureT-loop
+μ-loop input₀ from filled terms₀ orders₀ output₀ node₀ at₀ held₀ turns₀ input terms orders output node at held turns = turns
+
+loop-holds : tie.Need-loop-holds Inv-loop μ-loop
+loop-holds c = search needs
+
+sub-answer-all : tie.Need-sub-answer-all Inv-loop μ-loop
+sub-answer-all c = search needs
+
+part-answer-all-start : tie.Need-part-answer-all-start Inv-loop μ-loop
+part-answer-all-start c = search needs
+
+part-answer-all-end : tie.Need-part-answer-all-end Inv-loop μ-loop
+part-answer-all-end c = search needs
+
+answer-all-requires : tie.Need-answer-all-requires Inv-loop μ-loop
+answer-all-requires c κs = search needs
+
+same-length : tie.Need-same-length Inv-loop μ-loop
+same-length c = search needs
+
+same-length-2 : tie.Need-same-length-2 Inv-loop μ-loop
+same-length-2 c = search needs
+
+returns : tie.Need-returns Inv-loop μ-loop
+returns c = search needs
+
+add-keep : tie.Need-add-keep Inv-loop μ-loop
+add-keep c =
+    let answer-all = c .before .before .before .before .before .before .before .answer-all in
+    let loop = c .before .before .before .before .before .before .before .before .before .before .before .before .before .before .loop in
+    let entered = c .before .before .before .before .before .before .before .before .before .before .before .before .before .before .before .before .before in
+    omega (arith, answer-all .ensures, length-take (loop .held - loop .at) (drop (loop .at) (loop .input)), length-drop (loop .at) (loop .input), loop .inv .0, loop .inv .1, entered .good, loop .inv .2)
+
+keep-requires : tie.Need-keep-requires Inv-loop μ-loop
+keep-requires c κs = search needs
+
+shorten-requires : tie.Need-shorten-requires Inv-loop μ-loop
+shorten-requires c κs = search needs
+
+more-requires : tie.Need-more-requires Inv-loop μ-loop
+more-requires c κs =
+    let shorten = c .before .shorten in
+    let keep = c .before .before .before .before .before .keep in
+    let loop = c .before .before .before .before .before .before .before .before .before .before .before .before .before .before .before .before .before .before .before .before .loop in
+    omega (arith, shorten .ensures .0, keep .ensures .0, keep .kept .0, loop .inv .1)
+
+same-length-3 : tie.Need-same-length-3 Inv-loop μ-loop
+same-length-3 c =
+    let more = c .before .before .before .more in
+    let keep = c .before .before .before .before .before .before .before .before .before .keep in
+    let loop = c .before .before .before .before .before .before .before .before .before .before .before .before .before .before .before .before .before .before .before .before .before .before .before .before .loop in
+    omega (arith, more .kept .0, keep .kept .0, loop .inv .2)
+
+same-length-4 : tie.Need-same-length-4 Inv-loop μ-loop
+same-length-4 c =
+    let answer-all = c .before .before .before .before .before .before .before .before .before .before .before .before .before .before .before .before .before .answer-all in
+    let loop = c .before .before .before .before .before .before .before .before .before .before .before .before .before .before .before .before .before .before .before .before .before .before .before .before .loop in
+    omega (arith, answer-all .kept .1 .1 .1 .1 .0, loop .inv .3)
+
+returns-2 : tie.Need-returns-2 Inv-loop μ-loop
+returns-2 c = search needs
+
+sub-turns : tie.Need-sub-turns Inv-loop μ-loop
+sub-turns c =
+    let loop-test = c .before .before .before .before .before .before .before .before .before .before .before .before .before .before .before .before .before .before .before .before .before .before .before .loop-test in
+    omega (arith, loop-test .taken)
+
+loop-less : tie.Need-loop-less Inv-loop μ-loop
+loop-less c =
+    let loop-test = c .before .before .before .before .before .before .before .before .before .before .before .before .before .before .before .before .before .before .before .before .before .before .before .loop-test in
+    omega (arith, loop-test .taken)
+
+loop-again : tie.Need-loop-again Inv-loop μ-loop
+loop-again c =
+    let more = c .before .before .before .more in
+    let keep = c .before .before .before .before .before .before .before .before .before .keep in
+    let loop = c .before .before .before .before .before .before .before .before .before .before .before .before .before .before .before .before .before .before .before .before .before .before .before .before .loop in
+    let answer-all = c .before .before .before .before .before .before .before .before .before .before .before .before .before .before .before .before .before .answer-all in
+    (omega arith, omega (arith, more .ensures .1, more .kept .0), omega (arith, more .kept .0, keep .kept .0, loop .inv .2), omega (arith, answer-all .kept .1 .1 .1 .1 .0, loop .inv .3))
+
+same-length-5 : tie.Need-same-length-5 Inv-loop μ-loop
+same-length-5 c = search needs
+
+same-length-6 : tie.Need-same-length-6 Inv-loop μ-loop
+same-length-6 c = search needs
+
+returns-3 : tie.Need-returns-3 Inv-loop μ-loop
+returns-3 c = search needs
+
+pub later-lines-spec : {M : Type 1} → statement M
+later-lines-spec =
+    tie.close
+    (tie.spec
+    Inv-loop
+    μ-loop
+    loop-holds
+    sub-answer-all
+    part-answer-all-start
+    part-answer-all-end
+    answer-all-requires
+    same-length
+    same-length-2
+    returns
+    add-keep
+    keep-requires
+    shorten-requires
+    more-requires
+    same-length-3
+    same-length-4
+    returns-2
+    sub-turns
+    loop-less
+    loop-again
+    same-length-5
+    same-length-6
+    returns-3)

@@ -1,0 +1,137 @@
+// 01's small program: a box on lines of text. It reads, has each line answered by the library, and prints.
+use libc::STDOUT_FILENO;
+use node::Node;
+ghost use Prim.Native.Nat.{_≤_};
+ghost use lib.ListN.{length};
+
+// The first line in the block: how many bytes are held, and where it ends; 0 where the input ended before it was whole.
+struct First {
+    held: usize,
+    end: usize,
+}
+
+// What came of the lines of a block: the next box, the bytes taken, and whether all could be printed.
+struct Block {
+    node: Node,
+    taken: usize,
+    printed: bool,
+}
+
+fn first_line(input: &mut [u8]) -> First
+    ensures { λ r. ⌜ r .end ≤ r .held ⌝ }
+    ensures { λ r. ⌜ r .held ≤ length (now (input .entry)) ⌝ }
+{
+    let mut held = 0;
+    let mut turns = u64::MAX;
+    while turns > 0 {
+        let now = reader::more(input, held);
+        if now == held {
+            break;
+        }
+        let end = opening::line_end(&input[..now], 0);
+        if end != 0 {
+            return First { held: now, end };
+        }
+        held = reader::shorten(&input[..], now);
+        turns -= 1;
+    }
+    First { held: 0, end: 0 }
+}
+
+// Answers the whole lines of a block, and prints the answers.
+fn answer_all(
+    n: Node,
+    bytes: &[u8],
+    terms: &mut [u32; Node::LOG],
+    orders: &mut [u64; Node::LOG],
+    output: &mut [u8],
+) -> Block
+    ensures { λ r. ⌜ r .taken ≤ length (now (bytes .entry)) ⌝ }
+{
+    let mut node = n;
+    let mut at = 0;
+    loop {
+        let done = console::answer_lines(node, &bytes[at..], terms, orders, output);
+        if done.taken == 0 {
+            return Block {
+                node,
+                taken: at,
+                printed: true,
+            };
+        }
+        node = done.node;
+        at += done.taken;
+        if !io::write_all(STDOUT_FILENO, &output[..done.bytes]) {
+            return Block {
+                node,
+                taken: at,
+                printed: false,
+            };
+        }
+    }
+}
+
+// The lines behind the first: those in the block already, then what is read.
+fn later_lines(
+    n: Node,
+    input: &mut [u8],
+    from: usize,
+    filled: usize,
+    terms: &mut [u32; Node::LOG],
+    orders: &mut [u64; Node::LOG],
+    output: &mut [u8],
+)
+    requires { ⌜ from ≤ filled ⌝ }
+    requires { ⌜ filled ≤ length (now input) ⌝ }
+{
+    let mut node = n;
+    let mut at = from;
+    let mut held = filled;
+    let mut turns = u64::MAX;
+    while turns > 0 {
+        let block = answer_all(node, &input[at..held], terms, orders, output);
+        if !block.printed {
+            return;
+        }
+        node = block.node;
+        let left = reader::keep(input, at + block.taken, held);
+        let kept = reader::shorten(&input[..], left);
+        held = reader::more(input, kept);
+        if held == kept {
+            return;
+        }
+        at = 0;
+        turns -= 1;
+    }
+}
+
+fn run(input: &mut [u8], output: &mut [u8]) {
+    let first = first_line(input);
+    if first.end == 0 {
+        return;
+    }
+    let begun = console::begin(&input[..first.end], output);
+    if !io::write_all(STDOUT_FILENO, &output[..begun.bytes]) {
+        return;
+    }
+    if begun.started {
+        let node = begun.node;
+        let mut terms = [0u32; Node::LOG];
+        let mut orders = [0u64; Node::LOG];
+        later_lines(
+            node,
+            input,
+            first.end,
+            first.held,
+            &mut terms,
+            &mut orders,
+            output,
+        );
+    }
+}
+
+fn main() {
+    let mut input = io::large_buffer();
+    let mut output = io::large_buffer();
+    run(&mut input, &mut output);
+}

@@ -1,0 +1,3 @@
+-- Standard input in blocks.
+pub mod Blocks
+pub mod KeepLaws

@@ -1,0 +1,47 @@
+// Standard input in large blocks. The bytes of a line that is not whole yet stay at the block's start until the rest has come.
+use libc::STDIN_FILENO;
+ghost use Prim.Native.Nat.{_+_, _-_, _≤_};
+ghost use mathlib.Core.Path.{_≡_};
+ghost use lib.ListN.{length, take, drop};
+ghost use Rattle.digits.specs.Room.{over};
+ghost use Rattle.reader.specs.Blocks.{shortened};
+
+// Reads what there is behind what the block holds, and answers what it holds then: the same as before where the input has ended, or where the block is full.
+pub fn more(block: &mut [u8], held: usize) -> usize
+    requires { ⌜ held ≤ length (now block) ⌝ }
+    ensures { λ r. ⌜ held ≤ r ⌝ }
+    ensures { λ r. ⌜ r ≤ length (now (block .entry)) ⌝ }
+{
+    let got = libc::read(STDIN_FILENO, &mut block[held..]);
+    held + io::count(got, &block[held..])
+}
+
+// Moves what the block holds from a place on to its start, and answers how much that is.
+pub fn keep(block: &mut [u8], from: usize, held: usize) -> usize
+    requires { ⌜ from ≤ held ⌝ }
+    requires { ⌜ held ≤ length (now block) ⌝ }
+    ensures { λ r. ⌜ r ≡ held - from ⌝ }
+    ensures { λ _. ⌜ now (block .exit) ≡ over (now (block .entry)) 0 (take (held - from) (drop from (now (block .entry)))) ⌝ }
+{
+    let left = held - from;
+    let mut i = 0;
+    while i < left {
+        block[i] = block[from + i];
+        i += 1;
+    }
+    left
+}
+
+// A block that is full with no line feed in it: its line is too long for any meaning, whatever comes. So only its first bytes stay, more than any line has.
+pub fn shorten(block: &[u8], held: usize) -> usize
+    ensures { λ r. ⌜ r ≤ held ⌝ }
+    ensures { λ r. ⌜ r ≡ shortened (length (now (block .entry))) held ⌝ }
+{
+    if held < block.len() {
+        return held;
+    }
+    if held < 1024 {
+        return held;
+    }
+    1024
+}
