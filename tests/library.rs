@@ -1,6 +1,11 @@
 //! The proved library's C functions, as `crates/abi` has them, and those of the
 //! box and its journal a second time with what is lent in Rust's types.
 
+#[path = "numbers.rs"]
+mod numbers;
+
+pub use numbers::*;
+
 #[link(name = "abi", kind = "static")]
 unsafe extern "C" {
     pub fn frame_read(text: *const u8, text_len: usize, fields: *mut u64) -> u8;
@@ -72,31 +77,6 @@ unsafe extern "C" {
         orders: *mut u64,
     ) -> u8;
 }
-
-pub const NUMBERS: usize = 22;
-
-// The places of a box's numbers; box i has the place i - 1 after the last two.
-pub const ME: usize = 0;
-pub const MEMBERS: usize = 1;
-pub const TERM: usize = 2;
-pub const VOTE: usize = 3;
-pub const LAST: usize = 4;
-pub const COMMIT: usize = 5;
-pub const ROLE: usize = 6;
-pub const VOTES: usize = 7;
-pub const NEXT: usize = 8;
-pub const MATCH: usize = 15;
-
-pub const FOLLOWER: u64 = 0;
-pub const CANDIDATE: u64 = 1;
-pub const LEADER: u64 = 2;
-
-pub type Numbers = [u64; NUMBERS];
-pub type Terms = [u32; 256];
-pub type Orders = [u64; 256];
-/// Bytes of the journal line and of the messages; of an opening the bytes of
-/// the whole lines, or the number of the bad one.
-pub type Sizes = [u64; 2];
 
 /// The refusal and 256 times the bytes written.
 pub fn start(me: u8, mask: u8, numbers: &mut Numbers, room: &mut [u8]) -> u64 {

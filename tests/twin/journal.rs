@@ -88,12 +88,7 @@ impl Line {
 
 /// One whole line over the record so far: the next record, a restart's, or None
 /// with the log untouched. Of the record nothing is known but that its numbers fit.
-pub fn replay(
-    node: Node,
-    bytes: &[u8],
-    terms: &mut Terms,
-    orders: &mut Orders,
-) -> Option<Node> {
+pub fn replay(node: Node, bytes: &[u8], terms: &mut Terms, orders: &mut Orders) -> Option<Node> {
     let line = Line::read(bytes)?;
     // Whether it fits comes first: kept is a place in the log then.
     if !(line.fits(&node) && line.follows(&node) && line.in_order(term_at(terms, line.kept))) {
@@ -112,13 +107,18 @@ pub fn replay(
     })
 }
 
-/// The fresh box that the head is of, if it is the one asked for.
-fn head(me: u8, bytes: &[u8]) -> Option<Node> {
+/// The fresh box that the head is of.
+pub fn head(bytes: &[u8]) -> Option<Node> {
     let mut digits = Digits::of(bytes.strip_suffix(b"\n")?);
-    let start = [digits.byte()?, digits.byte()?, digits.byte()?];
-    let mask = digits.byte()?;
-    let proper = start == [0x01, 0x11, me] && digits.are_all() && is_membership(me, mask);
+    let start = [digits.byte()?, digits.byte()?];
+    let (me, mask) = (digits.byte()?, digits.byte()?);
+    let proper = start == [0x01, 0x11] && digits.are_all() && is_membership(me, mask);
     proper.then(|| fresh(me, mask))
+}
+
+/// The same, if it is the one asked for.
+pub fn head_of(me: u8, bytes: &[u8]) -> Option<Node> {
+    head(bytes).filter(|node| node.me == me)
 }
 
 /// On a refusal the log is as it was, and past the last entry always.
@@ -127,7 +127,7 @@ pub fn open(me: u8, text: &[u8], terms: &mut Terms, orders: &mut Orders) -> Open
     let whole = last_line_feed.map_or(0, |place| place + 1);
     let mut lines = text[..whole].split_inclusive(|&byte| byte == b'\n');
     let first = lines.next().ok_or(Refusal::NoHead)?;
-    let mut node = head(me, first).ok_or(Refusal::NoHead)?;
+    let mut node = head_of(me, first).ok_or(Refusal::NoHead)?;
 
     // What a later line cuts, or a bad one follows, must not be seen.
     let mut log: (Terms, Orders) = ([0; LONGEST_LOG as usize], [0; LONGEST_LOG as usize]);

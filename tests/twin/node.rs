@@ -9,6 +9,15 @@ pub mod frames;
 #[path = "journal.rs"]
 pub mod journal;
 
+#[path = "replaying.rs"]
+pub mod replaying;
+
+#[path = "session.rs"]
+pub mod session;
+
+#[path = "stream.rs"]
+pub mod stream;
+
 use frames::{encode, Entry, Message, NOT_A_FRAME, NO_ROOM};
 
 /// Not to this box, from itself, or from a non-member.
@@ -113,7 +122,7 @@ pub fn majority(yes: u8, members: u8) -> bool {
     2 * (yes & members).count_ones() > members.count_ones()
 }
 
-fn line_length(count: usize) -> usize {
+const fn line_length(count: usize) -> usize {
     LINE + ENTRY * count
 }
 
@@ -222,13 +231,61 @@ impl Node {
     }
 
     pub fn timeout(
-        mut self,
+        self,
         terms: &Terms,
         orders: &Orders,
         journal: &mut [u8],
         room: &mut [u8],
     ) -> Answer {
         self.check(terms)?;
+        self.timed_out(terms, orders, journal, room)
+    }
+
+    pub fn order(
+        self,
+        order: u64,
+        terms: &mut Terms,
+        orders: &mut Orders,
+        journal: &mut [u8],
+        room: &mut [u8],
+    ) -> Answer {
+        self.check(terms)?;
+        self.ordered(order, terms, orders, journal, room)
+    }
+
+    pub fn prompt(
+        self,
+        terms: &Terms,
+        orders: &Orders,
+        journal: &mut [u8],
+        room: &mut [u8],
+    ) -> Answer {
+        self.check(terms)?;
+        self.prompted(terms, orders, journal, room)
+    }
+
+    pub fn receive(
+        self,
+        bytes: &[u8],
+        terms: &mut Terms,
+        orders: &mut Orders,
+        journal: &mut [u8],
+        room: &mut [u8],
+    ) -> Answer {
+        self.check(terms)?;
+        self.received(bytes, terms, orders, journal, room)
+    }
+
+    // The same for a record known to be good: a box that was started and has
+    // only taken steps since need not look at its whole log at each of them.
+
+    fn timed_out(
+        mut self,
+        terms: &Terms,
+        orders: &Orders,
+        journal: &mut [u8],
+        room: &mut [u8],
+    ) -> Answer {
         if self.role == LEADER {
             return self.fit(0, 0, journal, room);
         }
@@ -247,7 +304,7 @@ impl Node {
         Ok(step)
     }
 
-    pub fn order(
+    fn ordered(
         mut self,
         order: u64,
         terms: &mut Terms,
@@ -255,7 +312,6 @@ impl Node {
         journal: &mut [u8],
         room: &mut [u8],
     ) -> Answer {
-        self.check(terms)?;
         if self.role != LEADER {
             return Err(NOT_LEADER);
         }
@@ -275,14 +331,13 @@ impl Node {
         Ok(Step { node: self, ..step })
     }
 
-    pub fn prompt(
+    fn prompted(
         self,
         terms: &Terms,
         orders: &Orders,
         journal: &mut [u8],
         room: &mut [u8],
     ) -> Answer {
-        self.check(terms)?;
         if self.role != LEADER {
             return Err(NOT_LEADER);
         }
@@ -292,7 +347,7 @@ impl Node {
         Ok(step)
     }
 
-    pub fn receive(
+    fn received(
         self,
         bytes: &[u8],
         terms: &mut Terms,
@@ -300,7 +355,6 @@ impl Node {
         journal: &mut [u8],
         room: &mut [u8],
     ) -> Answer {
-        self.check(terms)?;
         let message = frames::read(bytes).ok_or(NOT_A_FRAME)?;
         let (Message::VoteRequest { from, to, term, .. }
         | Message::VoteAnswer { from, to, term, .. }

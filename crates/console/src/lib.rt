@@ -1,11 +1,14 @@
 // A box on lines of text: 01's small program but for its reading and writing.
 mod blocks;
 mod lines;
+mod looking;
 mod text;
 
 pub use blocks::answer_lines;
 pub use lines::answer;
 pub use lines::begin;
+pub use looking::asked;
+pub use looking::show;
 use node::Node;
 
 // The first line's answer: false and nothing done where the room is shorter than the longest answer; whether a box was started; how many bytes are to be printed.

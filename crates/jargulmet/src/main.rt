@@ -4,38 +4,11 @@ use node::Node;
 ghost use Prim.Native.Nat.{_≤_};
 ghost use lib.ListN.{length};
 
-// The first line in the block: how many bytes are held, and where it ends; 0 where the input ended before it was whole.
-struct First {
-    held: usize,
-    end: usize,
-}
-
 // What came of the lines of a block: the next box, the bytes taken, and whether all could be printed.
 struct Block {
     node: Node,
     taken: usize,
     printed: bool,
-}
-
-fn first_line(input: &mut [u8]) -> First
-    ensures { λ r. ⌜ r .end ≤ r .held ⌝ }
-    ensures { λ r. ⌜ r .held ≤ length (now (input .entry)) ⌝ }
-{
-    let mut held = 0;
-    let mut turns = u64::MAX;
-    while turns > 0 {
-        let now = reader::more(input, held);
-        if now == held {
-            break;
-        }
-        let end = opening::line_end(&input[..now], 0);
-        if end != 0 {
-            return First { held: now, end };
-        }
-        held = reader::shorten(&input[..], now);
-        turns -= 1;
-    }
-    First { held: 0, end: 0 }
 }
 
 // Answers the whole lines of a block, and prints the answers.
@@ -106,7 +79,7 @@ fn later_lines(
 }
 
 fn run(input: &mut [u8], output: &mut [u8]) {
-    let first = first_line(input);
+    let first = reader::whole_line(input, 0);
     if first.end == 0 {
         return;
     }

@@ -17,7 +17,9 @@ use Rattle.node.specs.Calls.{state-of, bare, node-of}
 use Rattle.opening.specs.declared.Told.{Told}
 use Rattle.opening.specs.declared.Replayed as declared
 use Rattle.opening.specs.declared.Opened as answers
-use Rattle.journal.specs.Opening.{is-of-box, term-holds, vote-is, vote-stays, Replayed, next, breaks, replayed, Opened, opened, headless, broken, opening}
+use Rattle.opening.specs.declared.Block.{Block}
+use Rattle.journal.specs.Lines.{lines, mask-in}
+use Rattle.journal.specs.Opening.{is-of-box, term-holds, vote-is, vote-stays, Replayed, next, breaks, replayed, Opened, opened, headless, broken, is-head, opening}
 
 -- The bytes up to and with the first line feed; 0 where there is none.
 unfoldable pub first-line : List ℕ → ℕ
@@ -77,3 +79,44 @@ opening-by (broken line) terms orders = record { answer = record { refusal = 10;
 
 unfoldable pub opens : ℕ → List ℕ → List ℕ → List ℕ → Opens
 opens box bytes terms orders = opening-by (opening box bytes) terms orders
+
+-- ---- block by block
+
+-- The head alone: the fresh record of the box asked for, or 11 and no record.
+unfoldable pub heading : ℕ → List ℕ → declared.Replayed
+heading box line =
+    cond (is-head box line) (record { refusal = 0; node = node-of (fresh box (mask-in line)) }) (record { refusal = 11; node = none })
+
+pub record Blocks : Type 0 where
+  pub answer : Block
+  pub terms : List ℕ
+  pub orders : List ℕ
+
+-- One line more, where it keeps the rules; where it breaks one, the number 10, and all as it was.
+abbrev pub counted : Blocks → List ℕ → Replaying → Blocks
+counted x line r =
+    record {
+      answer = record { refusal = 0; node = r .answer .node; bytes = x .answer .bytes + length line; lines = x .answer .lines + 1 };
+      terms = r .terms;
+      orders = r .orders;
+    }
+
+abbrev pub stopped : Blocks → Blocks
+stopped x =
+    record {
+      answer = record { refusal = 10; node = x .answer .node; bytes = x .answer .bytes; lines = x .answer .lines };
+      terms = x .terms;
+      orders = x .orders;
+    }
+
+unfoldable pub replay-each : Blocks → List (List ℕ) → Blocks
+replay-each x [] = x
+replay-each x (line ∷ behind) =
+    cond (eqb (replaying (x .answer .node) line (x .terms) (x .orders) .answer .refusal) 0)
+    (replay-each (counted x line (replaying (x .answer .node) line (x .terms) (x .orders))) behind)
+    (stopped x)
+
+-- The whole lines of some bytes.
+unfoldable pub replaying-lines : Node → List ℕ → List ℕ → List ℕ → Blocks
+replaying-lines b bytes terms orders =
+    replay-each (record { answer = record { refusal = 0; node = b; bytes = 0; lines = 0 }; terms = terms; orders = orders }) (lines bytes)

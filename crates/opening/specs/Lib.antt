@@ -3,3 +3,4 @@ pub mod Calls
 pub mod CodeLaws
 pub mod ReplayCode
 pub mod OpenCode
+pub mod BlockCode

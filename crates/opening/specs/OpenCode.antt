@@ -32,7 +32,7 @@ unfolding holds
 held-none = at-box (λ i. holds 0 i ≡ false) refl refl refl refl refl refl refl
 
 -- so a head's mask is not 0
-head-mask : (me : ℕ) (s : List ℕ) → is-head me s ≡ true → mask-in s ≡ 0 → ⊥
+pub head-mask : (me : ℕ) (s : List ℕ) → is-head me s ≡ true → mask-in s ≡ 0 → ⊥
 unfolding is-head
 head-mask me s h e =
     let m = member-facts me (mask-in s) (and-right (head-shaped s && eqb (box-in s) me) _ h) in

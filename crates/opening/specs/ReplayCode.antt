@@ -124,7 +124,7 @@ module _ (b : Node) (bytes terms orders : List ℕ) where
 -- ---- all lines
 
 -- a replayed log fits
-replayed-room : (s : State) (bytes : List ℕ) (t : State) → replayed s bytes ≡ next t → length (t .log) ≤ log-limit
+pub replayed-room : (s : State) (bytes : List ℕ) (t : State) → replayed s bytes ≡ next t → length (t .log) ≤ log-limit
 unfolding replayed after stored allows
 replayed-room s bytes t = go (line-shaped bytes && allows s (line-in bytes)) refl
   where

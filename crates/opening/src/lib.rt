@@ -1,7 +1,10 @@
 // A box's journal, opened: whole at once, or line by line for one that is longer than memory.
+mod blocks;
 mod lines;
 mod whole;
 
+pub use blocks::replay_head;
+pub use blocks::replay_lines;
 use frames::Entry;
 pub use lines::is_head_shaped;
 pub use lines::line_end;
@@ -31,4 +34,12 @@ pub struct Opened {
     pub node: Node,
     pub bytes: usize,
     pub line: usize,
+}
+
+// What was made of a block of lines: 0, or 10 where the line behind those replayed breaks a rule; the record, and how many bytes and lines were replayed.
+pub struct Block {
+    pub refusal: u8,
+    pub node: Node,
+    pub bytes: usize,
+    pub lines: usize,
 }

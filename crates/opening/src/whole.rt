@@ -82,7 +82,7 @@ pub fn replay(
     replay_on(n, line, terms, orders)
 }
 
-fn fresh(me: u8, members: u8) -> Node
+pub fn fresh(me: u8, members: u8) -> Node
     ensures { λ r. ⌜ r ≡ node-of (fresh me members) ⌝ }
 {
     let zeros = [0u16; Node::BOXES];

@@ -45,3 +45,32 @@ pub fn shorten(block: &[u8], held: usize) -> usize
     }
     1024
 }
+
+// A line at the block's start: where it ends, and how many bytes the block holds. The end is 0 where the input ended before the line was whole.
+pub struct Line {
+    pub end: usize,
+    pub held: usize,
+}
+
+// The line at the block's start, read on until it is whole.
+pub fn whole_line(block: &mut [u8], filled: usize) -> Line
+    requires { ⌜ filled ≤ length (now block) ⌝ }
+    ensures { λ r. ⌜ r .end ≤ r .held ⌝ }
+    ensures { λ r. ⌜ r .held ≤ length (now (block .entry)) ⌝ }
+{
+    let mut held = filled;
+    let mut turns = u64::MAX;
+    while turns > 0 {
+        let end = opening::line_end(&block[..held], 0);
+        if end != 0 {
+            return Line { end, held };
+        }
+        let kept = shorten(&block[..], held);
+        held = more(block, kept);
+        if held == kept {
+            break;
+        }
+        turns -= 1;
+    }
+    Line { end: 0, held: 0 }
+}

@@ -5,8 +5,8 @@ use lib.ListN.{length-take}
 use Rattle.jargulmet.proofs.run.Statement.{statement}
 use Rattle.jargulmet.proofs.run.Tie as tie
 
-first-line-requires : tie.Need-first-line-requires
-first-line-requires c κs = search needs
+whole-line-requires : tie.Need-whole-line-requires
+whole-line-requires c κs = search needs
 
 same-length : tie.Need-same-length
 same-length c = search needs
@@ -19,8 +19,8 @@ slice-reshare-prefix-begin c = search needs
 
 slice-aggregate-begin : tie.Need-slice-aggregate-begin
 slice-aggregate-begin c =
-    let first-line = c .before .before .before .before .before .first-line in
-    simp length-take (omega (arith, first-line .ensures .0, first-line .ensures .1, first-line .kept .0))
+    let whole-line = c .before .before .before .before .before .whole-line in
+    simp length-take (omega (arith, whole-line .ensures .0, whole-line .ensures .1, whole-line .kept .0))
 
 begin-requires : tie.Need-begin-requires
 begin-requires c κs = search needs
@@ -70,7 +70,7 @@ pub run-spec : {M : Type 1} → statement M
 run-spec =
     tie.close
     (tie.spec
-    first-line-requires
+    whole-line-requires
     same-length
     returns
     slice-reshare-prefix-begin

@@ -1,33 +1,29 @@
 -- What is held never passes the block.
 use borrow.Author.Needs.{needs}
-use lib.ListN.{take, length-take}
-use Rattle.opening.specs.CodeLaws.{first-most}
 use native.Mathlib.Omega.{arith}
 use Prim.Native.Nat.{_≤_}
 use mathlib.Core.Path.{_≡_}
-use lib.ListN.{length}
-use Rattle.jargulmet.proofs.first_line.Statement.{statement}
-use Rattle.jargulmet.proofs.first_line.Tie as tie
+use lib.ListN.{length, take, length-take}
+use Rattle.opening.specs.CodeLaws.{first-most}
+use Rattle.reader.proofs.whole_line.Statement.{statement}
+use Rattle.reader.proofs.whole_line.Tie as tie
 
 abbrev Inv-loop : tie.InvT-loop
-Inv-loop input₀ held₀ turns₀ input held turns = (held ≤ length input) × (length input ≡ length input₀)
+Inv-loop block₀ filled held₀ turns₀ block held turns = (held ≤ length block) × (length block ≡ length block₀)
 
 abbrev μ-loop : tie.MeasureT-loop
-μ-loop input₀ held₀ turns₀ input held turns = turns
+μ-loop block₀ filled held₀ turns₀ block held turns = turns
 
 loop-holds : tie.Need-loop-holds Inv-loop μ-loop
 loop-holds c = search needs
-
-more-requires : tie.Need-more-requires Inv-loop μ-loop
-more-requires c κs = search needs
 
 slice-reshare-prefix-line-end : tie.Need-slice-reshare-prefix-line-end Inv-loop μ-loop
 slice-reshare-prefix-line-end c = search needs
 
 slice-aggregate-line-end : tie.Need-slice-aggregate-line-end Inv-loop μ-loop
 slice-aggregate-line-end c =
-    let more = c .before .before .before .before .more in
-    simp length-take (omega (arith, more .ensures .1, more .kept .0))
+    let loop = c .before .before .loop in
+    simp length-take (omega (arith, loop .inv .0))
 
 line-end-requires : tie.Need-line-end-requires Inv-loop μ-loop
 line-end-requires c κs = search needs
@@ -38,12 +34,14 @@ same-length c = search needs
 returns : tie.Need-returns Inv-loop μ-loop
 returns c =
     let line-end = c .before .line-end in
-    let more = c .before .before .before .before .before .before .more in
-    let loop = c .before .before .before .before .before .before .before .before .before .loop in
-    (omega (arith, line-end .ensures, first-most (take (more .result) (more .last .0)), length-take (more .result) (more .last .0)), omega (arith, more .ensures .1, loop .inv .1))
+    let loop = c .before .before .before .before .loop in
+    (omega (arith, line-end .ensures, first-most (take (loop .held) (loop .block)), length-take (loop .held) (loop .block)), omega (arith, loop .inv .0, loop .inv .1))
 
 shorten-requires : tie.Need-shorten-requires Inv-loop μ-loop
 shorten-requires c κs = search needs
+
+more-requires : tie.Need-more-requires Inv-loop μ-loop
+more-requires c κs = search needs
 
 sub-turns : tie.Need-sub-turns Inv-loop μ-loop
 sub-turns c = search needs
@@ -66,20 +64,20 @@ same-length-3 c = search needs
 returns-3 : tie.Need-returns-3 Inv-loop μ-loop
 returns-3 c = search needs
 
-pub first-line-spec : {M : Type 1} → statement M
-first-line-spec =
+pub whole-line-spec : {M : Type 1} → statement M
+whole-line-spec =
     tie.close
     (tie.spec
     Inv-loop
     μ-loop
     loop-holds
-    more-requires
     slice-reshare-prefix-line-end
     slice-aggregate-line-end
     line-end-requires
     same-length
     returns
     shorten-requires
+    more-requires
     sub-turns
     loop-less
     loop-again

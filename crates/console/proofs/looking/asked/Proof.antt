@@ -1,0 +1,42 @@
+-- The digit's number.
+use borrow.Author.Needs.{needs}
+use mathlib.Core.Path.{_≡_, refl, sym, ap, _∙_}
+use native.Mathlib.Omega.{arith}
+use Rattle.console.specs.LookingLaws.{asks-facts, asked-digit, asked-none}
+use Rattle.console.proofs.looking.asked.Statement.{statement}
+use Rattle.console.proofs.looking.asked.Tie as tie
+
+is-asking-requires : tie.Need-is-asking-requires
+is-asking-requires c κs = search needs
+
+shared-slice-read-result : tie.Need-shared-slice-read-result
+shared-slice-read-result c =
+    let entered = c .before .before .before .before in
+    let is-asking = c .before .before .is-asking in
+    let if1 = c .before .if1 in
+    omega (arith, asks-facts (entered .args .line .now) (sym (is-asking .ensures) ∙ if1 .taken) .0)
+
+sub-result : tie.Need-sub-result
+sub-result c =
+    let entered = c .before .before .before .before in
+    let is-asking = c .before .before .is-asking in
+    let if1 = c .before .if1 in
+    omega (arith, asks-facts (entered .args .line .now) (sym (is-asking .ensures) ∙ if1 .taken) .1)
+
+returns : tie.Need-returns
+returns c =
+    let entered = c .before .before .before .before in
+    let is-asking = c .before .before .is-asking in
+    let if1 = c .before .if1 in
+    sym (asked-digit (entered .args .line .now) (sym (is-asking .ensures) ∙ if1 .taken))
+
+returns-2 : tie.Need-returns-2
+returns-2 c =
+    let entered = c .before .before .before in
+    let is-asking = c .before .is-asking in
+    let if1 = c .if1 in
+    sym (asked-none (entered .args .line .now) (sym (is-asking .ensures) ∙ if1 .left))
+
+pub asked-spec : {M : Type 1} → statement M
+asked-spec =
+    tie.close (tie.spec is-asking-requires shared-slice-read-result sub-result returns returns-2)

@@ -1,0 +1,98 @@
+-- What is held never passes the block, nor the log its limit.
+use borrow.Author.Needs.{needs}
+use lib.ListN.{length, take, length-take}
+use native.Mathlib.Omega.{arith}
+use mathlib.Core.Path.{_≡_, sym, ap}
+use Rattle.frames.specs.Limits.{log-limit}
+use Rattle.opening.specs.declared.Replayed.{Replayed}
+use Rattle.opening.specs.BlockCode.{heading-fits}
+use Prim.Native.Nat.{_≤_}
+use Rattle.replay.proofs.open.Statement.{statement}
+use Rattle.replay.proofs.open.Tie as tie
+
+whole-line-requires : tie.Need-whole-line-requires
+whole-line-requires c κs = search needs
+
+slice-reshare-prefix-replay-head : tie.Need-slice-reshare-prefix-replay-head
+slice-reshare-prefix-replay-head c = search needs
+
+slice-aggregate-replay-head : tie.Need-slice-aggregate-replay-head
+slice-aggregate-replay-head c =
+    let whole-line = c .before .before .before .whole-line in
+    simp length-take (omega (arith, whole-line .ensures .0, whole-line .ensures .1, whole-line .kept .0))
+
+replay-head-requires : tie.Need-replay-head-requires
+replay-head-requires c κs = search needs
+
+no-head-requires : tie.Need-no-head-requires
+no-head-requires c κs = search needs
+
+same-length : tie.Need-same-length
+same-length c = search needs
+
+returns : tie.Need-returns
+returns c = search needs
+
+keep-requires : tie.Need-keep-requires
+keep-requires c κs = search needs
+
+later-lines-requires : tie.Need-later-lines-requires
+later-lines-requires c κs =
+    let keep = c .before .before .before .before .before .keep in
+    let whole-line = c .before .before .before .before .before .before .before .before .before .before .before .before .before .before .whole-line in
+    let replay-head = c .before .before .before .before .before .before .before .before .before .before .replay-head in
+    let entered = c .before .before .before .before .before .before .before .before .before .before .before .before .before .before .before .before .before .before in
+    (omega (arith, keep .ensures .0, keep .kept .0, whole-line .ensures .1, whole-line .kept .0), omega (arith, ap (λ (r : Replayed). r .node .last) (replay-head .ensures), heading-fits (entered .args .me) (take (whole-line .result .end) (whole-line .last .0))))
+
+bad-line-requires : tie.Need-bad-line-requires
+bad-line-requires c κs = search needs
+
+same-length-2 : tie.Need-same-length-2
+same-length-2 c =
+    let later-lines = c .before .before .before .before .before .before .later-lines in
+    let keep = c .before .before .before .before .before .before .before .before .before .before .before .before .keep in
+    let whole-line = c .before .before .before .before .before .before .before .before .before .before .before .before .before .before .before .before .before .before .before .before .before .whole-line in
+    omega (arith, later-lines .kept .1 .0, keep .kept .0, whole-line .kept .0)
+
+returns-2 : tie.Need-returns-2
+returns-2 c = search needs
+
+show-requires : tie.Need-show-requires
+show-requires c κs =
+    let later-lines = c .before .before .before .before .before .before .before .before .later-lines in
+    let entered = c .before .before .before .before .before .before .before .before .before .before .before .before .before .before .before .before .before .before .before .before .before .before .before .before .before .before .before in
+    (later-lines .ensures, entered .pre .1)
+
+same-length-3 : tie.Need-same-length-3
+same-length-3 c =
+    let later-lines = c .before .before .before .before .before .before .before .before .before .before .before .later-lines in
+    let keep = c .before .before .before .before .before .before .before .before .before .before .before .before .before .before .before .before .before .keep in
+    let whole-line = c .before .before .before .before .before .before .before .before .before .before .before .before .before .before .before .before .before .before .before .before .before .before .before .before .before .before .whole-line in
+    omega (arith, later-lines .kept .1 .0, keep .kept .0, whole-line .kept .0)
+
+same-length-4 : tie.Need-same-length-4
+same-length-4 c = search needs
+
+returns-3 : tie.Need-returns-3
+returns-3 c = search needs
+
+pub open-spec : {M : Type 1} → statement M
+open-spec =
+    tie.close
+    (tie.spec
+    whole-line-requires
+    slice-reshare-prefix-replay-head
+    slice-aggregate-replay-head
+    replay-head-requires
+    no-head-requires
+    same-length
+    returns
+    keep-requires
+    later-lines-requires
+    bad-line-requires
+    same-length-2
+    returns-2
+    show-requires
+    same-length-3
+    same-length-4
+    returns-3)

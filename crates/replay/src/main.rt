@@ -1,0 +1,130 @@
+// A look into a journal: the first line asks for a box, the rest is its journal. It reads, has the lines replayed by the library, and prints.
+use libc::STDOUT_FILENO;
+use node::Node;
+ghost use Prim.Native.Nat.{_≤_};
+ghost use mathlib.Core.Path.{_≡_};
+ghost use lib.ListN.{length};
+ghost use Rattle.frames.specs.Limits.{log-limit};
+
+// What the lines behind the head came to: 0, or 10 and how many were good before; the record, and their bytes.
+struct Ended {
+    refusal: u8,
+    node: Node,
+    bytes: u64,
+    lines: u64,
+}
+
+fn no_head() {
+    io::write_all(STDOUT_FILENO, b"n11\n");
+}
+
+// The head is line 1, and those that were good stand between it and this one.
+fn bad_line(good: u64) {
+    io::write_all(STDOUT_FILENO, b"n10 ");
+    io::print_decimal(STDOUT_FILENO, std::num::wrapping_add_u64(good, 2));
+    io::write_all(STDOUT_FILENO, b"\n");
+}
+
+// The lines behind the head: those in the block already, then what is read.
+fn later_lines(
+    n: Node,
+    input: &mut [u8],
+    filled: usize,
+    terms: &mut [u32; Node::LOG],
+    orders: &mut [u64; Node::LOG],
+) -> Ended
+    requires { ⌜ filled ≤ length (now input) ⌝ }
+    requires { ⌜ n .last ≤ log-limit ⌝ }
+    ensures { λ r. ⌜ r .node .last ≤ log-limit ⌝ }
+{
+    let mut node = n;
+    let mut held = filled;
+    let mut bytes: u64 = 0;
+    let mut lines: u64 = 0;
+    let mut turns = u64::MAX;
+    while turns > 0 {
+        let block = opening::replay_lines(node, &input[..held], terms, orders);
+        node = block.node;
+        bytes = std::num::wrapping_add_u64(bytes, block.bytes as u64);
+        lines = std::num::wrapping_add_u64(lines, block.lines as u64);
+        if block.refusal != 0 {
+            return Ended {
+                refusal: 10,
+                node,
+                bytes,
+                lines,
+            };
+        }
+        let left = reader::keep(input, block.bytes, held);
+        let kept = reader::shorten(&input[..], left);
+        held = reader::more(input, kept);
+        if held == kept {
+            break;
+        }
+        turns -= 1;
+    }
+    Ended {
+        refusal: 0,
+        node,
+        bytes,
+        lines,
+    }
+}
+
+// Prints the record, the head's nine bytes counted.
+fn show(n: Node, bytes: u64, terms: &[u32; Node::LOG], orders: &[u64; Node::LOG], output: &mut [u8])
+    requires { ⌜ n .last ≤ log-limit ⌝ }
+    requires { ⌜ 6484 ≤ length (now output) ⌝ }
+{
+    let text = console::show(
+        n,
+        std::num::wrapping_add_u64(bytes, 9),
+        terms,
+        orders,
+        output,
+    );
+    io::write_all(STDOUT_FILENO, &output[..text]);
+}
+
+// The journal behind the first line.
+fn open(me: u8, input: &mut [u8], filled: usize, output: &mut [u8])
+    requires { ⌜ filled ≤ length (now input) ⌝ }
+    requires { ⌜ 6484 ≤ length (now output) ⌝ }
+{
+    let head = reader::whole_line(input, filled);
+    let opened = opening::replay_head(me, &input[..head.end]);
+    let node = opened.node;
+    if opened.refusal != 0 {
+        no_head();
+        return;
+    }
+    let left = reader::keep(input, head.end, head.held);
+    let mut terms = [0u32; Node::LOG];
+    let mut orders = [0u64; Node::LOG];
+    let ended = later_lines(node, input, left, &mut terms, &mut orders);
+    let last = ended.node;
+    if ended.refusal != 0 {
+        bad_line(ended.lines);
+        return;
+    }
+    show(last, ended.bytes, &terms, &orders, output);
+}
+
+fn run(input: &mut [u8], output: &mut [u8])
+    requires { ⌜ 6484 ≤ length (now output) ⌝ }
+{
+    let first = reader::whole_line(input, 0);
+    let me = console::asked(&input[..first.end]);
+    if me == 0 {
+        no_head();
+        return;
+    }
+    let left = reader::keep(input, first.end, first.held);
+    open(me, input, left, output);
+}
+
+fn main() {
+    let mut input = io::large_buffer();
+    let mut output = io::large_buffer();
+    run(&mut input, &mut output);
+}
