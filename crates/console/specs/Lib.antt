@@ -8,3 +8,4 @@ pub mod SayingLaws
 pub mod BeginLaws
 pub mod BlockLaws
 pub mod LookingLaws
+pub mod GoodLaws

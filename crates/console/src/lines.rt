@@ -10,10 +10,12 @@ ghost use mathlib.Core.Path.{_≡_};
 ghost use mathlib.Core.Bool.{true};
 ghost use Prim.Native.Nat.{_≤_};
 ghost use lib.ListN.{length};
-ghost use Rattle.node.specs.Calls.{Called, call};
+ghost use Rattle.frames.specs.Limits.{log-limit};
+ghost use Rattle.raft.specs.Record.{good};
+ghost use Rattle.node.specs.Calls.{state-of, Called, call};
 ghost use Rattle.node.specs.Calls as calls;
 ghost use Rattle.console.specs.Session as definition;
-ghost use Rattle.console.specs.Calls.{starts, Beginning, beginning, Saying, saying};
+ghost use Rattle.console.specs.Calls.{longest, starts, Beginning, beginning, Saying, saying};
 
 fn is_letter(letter: u8, s: &[u8]) -> bool
     ensures { λ r. ⌜ r ≡ definition.is-letter letter (now (s .entry)) ⌝ }
@@ -43,48 +45,55 @@ fn order_in(s: &[u8]) -> u64
     digits::get_u64(&s[1..], 0)
 }
 
-// The event that a line asks for.
+// The event that a line asks for, at a record of which it is known whether it is good.
 fn step(
     n: Node,
+    known: bool,
     line: &[u8],
-    terms: &mut [u32; Node::LOG],
-    orders: &mut [u64; Node::LOG],
+    terms: &mut [u32],
+    orders: &mut [u64],
     journal: &mut [u8],
     room: &mut [u8],
 ) -> Step
+    requires { ⌜ length (now terms) ≡ log-limit ⌝ }
+    requires { ⌜ length (now orders) ≡ log-limit ⌝ }
+    requires { ⌜ known ≡ good (state-of n (now terms) (now orders)) ⌝ }
     ensures { λ r. ⌜ _≡_ {A = Called} (record { answer = r; terms = now (terms .exit); orders = now (orders .exit); journal = now (journal .exit); room = now (room .exit) }) (call (definition.event-of (now (line .entry))) n (now (terms .entry)) (now (orders .entry)) (now (journal .entry)) (now (room .entry))) ⌝ }
 {
+    if !known {
+        return node::refused(n, 12);
+    }
     if is_letter(b't', line) {
-        return n.timeout(terms, orders, journal, room);
+        return node::run_timeout(n, &terms[..], &orders[..], journal, room);
     }
     if is_letter(b'p', line) {
-        return n.prompt(terms, orders, journal, room);
+        return node::run_prompt(n, &terms[..], &orders[..], journal, room);
     }
     if is_order(line) {
-        return n.order(order_in(line), terms, orders, journal, room);
+        return node::run_order(n, order_in(line), terms, orders, journal, room);
     }
-    n.receive(line, terms, orders, journal, room)
+    node::run_bytes(n, line, terms, orders, journal, room)
 }
 
-// A line with its line feed, at a box: its journal line and messages, or its refusal, at the room's start.
-pub fn answer(
+// The answer to a line, at the room's start. The messages are written aside, since they stand behind a journal line whose length comes with them.
+pub fn answer_known(
     n: Node,
+    known: bool,
     line: &[u8],
-    terms: &mut [u32; Node::LOG],
-    orders: &mut [u64; Node::LOG],
+    terms: &mut [u32],
+    orders: &mut [u64],
     room: &mut [u8],
+    messages: &mut [u8],
 ) -> Answered
+    requires { ⌜ length (now terms) ≡ log-limit ⌝ }
+    requires { ⌜ length (now orders) ≡ log-limit ⌝ }
+    requires { ⌜ known ≡ good (state-of n (now terms) (now orders)) ⌝ }
+    requires { ⌜ longest ≤ length (now room) ⌝ }
+    requires { ⌜ 786 ≤ length (now messages) ⌝ }
     ensures { λ r. ⌜ _≡_ {A = Saying} (record { answer = r; terms = now (terms .exit); orders = now (orders .exit); room = now (room .exit) }) (saying n (now (line .entry)) (now (terms .entry)) (now (orders .entry)) (now (room .entry))) ⌝ }
+    ensures { λ r. ⌜ known ≡ good (state-of (r .node) (now (terms .exit)) (now (orders .exit))) ⌝ }
 {
-    if room.len() < 905 {
-        return Answered {
-            fits: false,
-            node: n,
-            bytes: 0,
-        };
-    }
-    let mut messages = [0u8; 786];
-    let done = step(n, line, terms, orders, room, &mut messages);
+    let done = step(n, known, line, terms, orders, room, messages);
     let node = done.node;
     if done.refusal == 0 {
         put(room, done.line, &messages[..done.sent]);
@@ -100,6 +109,42 @@ pub fn answer(
         node,
         bytes,
     }
+}
+
+fn answer_on(
+    n: Node,
+    line: &[u8],
+    terms: &mut [u32],
+    orders: &mut [u64],
+    room: &mut [u8],
+) -> Answered
+    requires { ⌜ length (now terms) ≡ log-limit ⌝ }
+    requires { ⌜ length (now orders) ≡ log-limit ⌝ }
+    ensures { λ r. ⌜ _≡_ {A = Saying} (record { answer = r; terms = now (terms .exit); orders = now (orders .exit); room = now (room .exit) }) (saying n (now (line .entry)) (now (terms .entry)) (now (orders .entry)) (now (room .entry))) ⌝ }
+{
+    if room.len() < 905 {
+        return Answered {
+            fits: false,
+            node: n,
+            bytes: 0,
+        };
+    }
+    let known = node::is_good(n, &terms[..]);
+    let mut messages = [0u8; 786];
+    answer_known(n, known, line, terms, orders, room, &mut messages)
+}
+
+// A line with its line feed, at a box: its journal line and messages, or its refusal, at the room's start.
+pub fn answer(
+    n: Node,
+    line: &[u8],
+    terms: &mut [u32; Node::LOG],
+    orders: &mut [u64; Node::LOG],
+    room: &mut [u8],
+) -> Answered
+    ensures { λ r. ⌜ _≡_ {A = Saying} (record { answer = r; terms = now (terms .exit); orders = now (orders .exit); room = now (room .exit) }) (saying n (now (line .entry)) (now (terms .entry)) (now (orders .entry)) (now (room .entry))) ⌝ }
+{
+    answer_on(n, line, terms, orders, room)
 }
 
 // Starts the box of a head; a line that has not the form of one starts none.

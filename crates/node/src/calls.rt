@@ -14,7 +14,9 @@ ghost use lib.ListN.{length};
 ghost use Rattle.raft.specs.Step.{timeout, prompt};
 ghost use Rattle.raft.specs.Step.{order as ordering};
 ghost use Rattle.raft.specs.Receive.{receive as receiving};
-ghost use Rattle.node.specs.Calls.{Called, call, handed};
+ghost use Rattle.raft.specs.Record.{good};
+ghost use mathlib.Core.Bool.{true};
+ghost use Rattle.node.specs.Calls.{state-of, Called, run, call, handed};
 
 pub fn timeout(n: Node, terms: &[u32], orders: &[u64], journal: &mut [u8], room: &mut [u8]) -> Step
     requires { ⌜ length (now terms) ≡ log-limit ⌝ }
@@ -56,6 +58,28 @@ pub fn prompt(n: Node, terms: &[u32], orders: &[u64], journal: &mut [u8], room: 
     run_prompt(n, terms, orders, journal, room)
 }
 
+// Any bytes at a record that is known to be good.
+pub fn run_bytes(
+    n: Node,
+    bytes: &[u8],
+    terms: &mut [u32],
+    orders: &mut [u64],
+    journal: &mut [u8],
+    room: &mut [u8],
+) -> Step
+    requires { ⌜ length (now terms) ≡ log-limit ⌝ }
+    requires { ⌜ length (now orders) ≡ log-limit ⌝ }
+    requires { ⌜ good (state-of n (now terms) (now orders)) ≡ true ⌝ }
+    ensures { λ r. ⌜ _≡_ {A = Called} (record { answer = r; terms = now (terms .exit); orders = now (orders .exit); journal = now (journal .exit); room = now (room .exit) }) (run (receiving (now (bytes .entry)) (state-of n (now (terms .entry)) (now (orders .entry)))) n (now (terms .entry)) (now (orders .entry)) (now (journal .entry)) (now (room .entry))) ⌝ }
+{
+    let parsed = frames::read(bytes);
+    if parsed.refusal == 1 {
+        return refused(n, 1);
+    }
+    let fields = parsed.fields;
+    run_receive(n, fields, terms, orders, journal, room)
+}
+
 pub fn receive(
     n: Node,
     bytes: &[u8],
@@ -71,12 +95,7 @@ pub fn receive(
     if !is_good(n, &terms[..]) {
         return refused(n, 12);
     }
-    let parsed = frames::read(bytes);
-    if parsed.refusal == 1 {
-        return refused(n, 1);
-    }
-    let fields = parsed.fields;
-    run_receive(n, fields, terms, orders, journal, room)
+    run_bytes(n, bytes, terms, orders, journal, room)
 }
 
 pub fn handed_out(n: Node, terms: &[u32], orders: &[u64]) -> Handed

@@ -12,6 +12,13 @@ mod sends;
 mod turns;
 mod votes;
 
+// Inside calls, for who knows that the record is good: it is looked at once, and stays good from step to step.
+pub use calls::run_bytes;
+pub use events::refused;
+pub use events::run_order;
+pub use events::run_prompt;
+pub use events::run_timeout;
+pub use record::is_good;
 ghost use mathlib.Core.Path.{_≡_};
 ghost use Rattle.raft.specs.Record.{fresh};
 ghost use Rattle.raft.specs.Step.{timeout, prompt};

@@ -1,12 +1,9 @@
--- 12 where the record breaks a rule, 1 where the bytes are not one frame; otherwise the message decides.
+-- 12 where the record breaks a rule; otherwise the bytes decide.
 use borrow.Author.Needs.{needs}
 use mathlib.Core.Path.{_≡_, refl, sym, ap, _∙_}
-use native.Mathlib.Omega.{arith}
 use borrow.Author.Tests.{not-true, not-false}
 use Rattle.raft.specs.Receive.{receive}
-use Rattle.node.specs.Calls.{state-of, run}
 use Rattle.node.specs.CallLaws.{call-bad, call-good}
-use Rattle.node.specs.ReceiveCalls.{read-not, read-frame}
 use Rattle.node.proofs.calls.receive.Statement.{statement}
 use Rattle.node.proofs.calls.receive.Tie as tie
 
@@ -21,27 +18,21 @@ same-length c = search needs
 
 returns : tie.Need-returns
 returns c =
+    let refused = c .refused in
     let entered = c .before .before .before .before .before .before .before .before .before in
-    rw (c .refused .ensures) (call-bad (receive (entered .args .bytes .now)) (entered .args .n) (entered .args .terms .now) (entered .args .orders .now) (entered .args .journal .now) (entered .args .room .now) (sym (c .before .before .is-good .ensures (entered .args .orders .now)) ∙ not-true _ (c .before .if1 .taken)))
+    let is-good = c .before .before .is-good in
+    let if1 = c .before .if1 in
+    rw (refused .ensures) (call-bad (receive (entered .args .bytes .now)) (entered .args .n) (entered .args .terms .now) (entered .args .orders .now) (entered .args .journal .now) (entered .args .room .now) (sym (is-good .ensures (entered .args .orders .now)) ∙ not-true _ (if1 .taken)))
 
-read-requires : tie.Need-read-requires
-read-requires c κs = search needs
-
-refused-requires-2 : tie.Need-refused-requires-2
-refused-requires-2 c κs = search needs
+run-bytes-requires : tie.Need-run-bytes-requires
+run-bytes-requires c κs =
+    let entered = c .before .before .before .before .before .before .before .before .before .before .before .before in
+    let is-good = c .before .before .before .before .before .is-good in
+    let if1 = c .before .before .before .before .if1 in
+    (entered .pre .0, (entered .pre .1, (sym (is-good .ensures (entered .args .orders .now)) ∙ not-false _ (if1 .left))))
 
 same-length-2 : tie.Need-same-length-2
 same-length-2 c = search needs
-
-returns-2 : tie.Need-returns-2
-returns-2 c =
-    let entered = c .before .before .before .before .before .before .before .before .before .before .before .before in
-    rw (c .refused2 .ensures) (read-not (entered .args .bytes .now) _ (c .before .before .before .read .ensures) (c .before .if2 .taken) (entered .args .n) (entered .args .terms .now) (entered .args .orders .now) (entered .args .journal .now) (entered .args .room .now) ∙ call-good (receive (entered .args .bytes .now)) (entered .args .n) (entered .args .terms .now) (entered .args .orders .now) (entered .args .journal .now) (entered .args .room .now) (sym (c .before .before .before .before .before .is-good .ensures (entered .args .orders .now)) ∙ not-false _ (c .before .before .before .before .if1 .left)))
-
-run-receive-requires : tie.Need-run-receive-requires
-run-receive-requires c κs =
-    let entered = c .before .before .before .before .before .before .before .before .before .before .before .before .before .before .before .before in
-    (entered .pre .0, (entered .pre .1, ((sym (c .before .before .before .before .before .before .before .before .before .is-good .ensures (entered .args .orders .now)) ∙ not-false _ (c .before .before .before .before .before .before .before .before .if1 .left)), read-frame (entered .args .bytes .now) _ (c .before .before .before .before .before .before .before .read .ensures) (λ p. c .before .before .before .before .before .if2 .left p) .0)))
 
 same-length-3 : tie.Need-same-length-3
 same-length-3 c = search needs
@@ -52,13 +43,13 @@ same-length-4 c = search needs
 same-length-5 : tie.Need-same-length-5
 same-length-5 c = search needs
 
-same-length-6 : tie.Need-same-length-6
-same-length-6 c = search needs
-
-returns-3 : tie.Need-returns-3
-returns-3 c =
-    let entered = c .before .before .before .before .before .before .before .before .before .before .before .before .before .before .before .before .before .before .before .before .before .before .before .before .before in
-    c .before .before .before .before .before .before .before .before .run-receive .ensures ∙ ap (λ o. run o (entered .args .n) (entered .args .terms .now) (entered .args .orders .now) (entered .args .journal .now) (entered .args .room .now)) (read-frame (entered .args .bytes .now) _ (c .before .before .before .before .before .before .before .before .before .before .before .before .before .before .before .before .read .ensures) (λ p. c .before .before .before .before .before .before .before .before .before .before .before .before .before .before .if2 .left p) .1 (state-of (entered .args .n) (entered .args .terms .now) (entered .args .orders .now))) ∙ call-good (receive (entered .args .bytes .now)) (entered .args .n) (entered .args .terms .now) (entered .args .orders .now) (entered .args .journal .now) (entered .args .room .now) (sym (c .before .before .before .before .before .before .before .before .before .before .before .before .before .before .before .before .before .before .is-good .ensures (entered .args .orders .now)) ∙ not-false _ (c .before .before .before .before .before .before .before .before .before .before .before .before .before .before .before .before .before .if1 .left))
+returns-2 : tie.Need-returns-2
+returns-2 c =
+    let run-bytes = c .before .before .before .before .before .before .before .before .run-bytes in
+    let entered = c .before .before .before .before .before .before .before .before .before .before .before .before .before .before .before .before .before .before .before .before .before in
+    let is-good = c .before .before .before .before .before .before .before .before .before .before .before .before .before .before .is-good in
+    let if1 = c .before .before .before .before .before .before .before .before .before .before .before .before .before .if1 in
+    run-bytes .ensures ∙ call-good (receive (entered .args .bytes .now)) (entered .args .n) (entered .args .terms .now) (entered .args .orders .now) (entered .args .journal .now) (entered .args .room .now) (sym (is-good .ensures (entered .args .orders .now)) ∙ not-false _ (if1 .left))
 
 pub receive-spec : {M : Type 1} → statement M
 receive-spec =
@@ -68,13 +59,9 @@ receive-spec =
     refused-requires
     same-length
     returns
-    read-requires
-    refused-requires-2
+    run-bytes-requires
     same-length-2
-    returns-2
-    run-receive-requires
     same-length-3
     same-length-4
     same-length-5
-    same-length-6
-    returns-3)
+    returns-2)
