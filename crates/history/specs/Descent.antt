@@ -1,0 +1,92 @@
+-- What descent says: terms never fall, and two logs that hold one term at one index are the same up to there. Assumes nothing.
+use Prim.Native.Nat.{ℕ, zero, suc, _≤_}
+use native.Mathlib.Decide.{decLe}
+use native.Mathlib.Omega.{arith}
+use mathlib.Core.Path.{_≡_, refl, subst}
+use mathlib.Core.List.{List}
+use lib.ListN.{length, take}
+use lib.Seq.{take-length, length-take-le}
+use Rattle.frames.specs.declared.Entry.{Entry}
+use Rattle.raft.specs.Record.{term-at}
+use Rattle.history.specs.Begins.{Begins, begins-long, begins-same, begins-term, begins-take, begins-both, begins-whole}
+use Rattle.history.specs.History.{Leaders, History, Won, Comes, Descends, Within, Leading, Facts}
+
+-- the term at 0 is 0
+pub term-zero : (log : List Entry) → term-at log 0 ≡ 0
+unfolding term-at
+term-zero log = refl
+
+-- the first n entries hold what the log holds
+pub term-take : (log : List Entry) (n k : ℕ) → n ≤ length log → k ≤ n → term-at (take n log) k ≡ term-at log k
+term-take log n k l h = begins-term (begins-take n log) k (rw (length-take-le n log l) h)
+
+-- a log that comes from leaders' logs at each index does so at its beginnings
+pub descends-first : {l : Leaders} {log part : List Entry} → Begins part log → Descends l log → Descends l part
+descends-first {l} {log} {part} p d = record { at = λ k a b. comes k (d .at k a (omega (arith, begins-long p))) b }
+  where
+    comes : (k : ℕ) → Comes l log k → k ≤ length part → Comes l part k
+    comes k c b =
+        let same = begins-term p k b in
+        record { won = rw same (c .won); begins = rw (same, begins-same p k b) (c .begins) }
+
+-- where no term of a log is above a bound, none of a beginning is
+pub within-first : {log part : List Entry} {bound : ℕ} → Begins part log → Within bound log → Within bound part
+within-first p d = record { at = λ k a b. omega (arith, begins-term p k b, begins-long p, d .at k a (omega (arith, begins-long p))) }
+
+-- and the bound may be raised
+pub within-more : {log : List Entry} {bound : ℕ} → Within bound log → (higher : ℕ) → bound ≤ higher → Within higher log
+within-more d higher l = record { at = λ k a b. omega (arith, d .at k a b) }
+
+-- all of a log that descends, if it holds anything, begins the log of its last term's leader
+pub descends-last : {l : Leaders} {log : List Entry} → Descends l log → 1 ≤ length log → Begins log (l .log (term-at log (length log)))
+descends-last {l} {log} d a =
+    subst (λ x. Begins x (l .log (term-at log (length log)))) (take-length log) (d .at (length log) a (omega arith) .begins)
+
+-- a leader's log holds no term above its own
+pub leading-within : {l : Leaders} {t : ℕ} {start : List Entry} → Leading l t start → Within t (l .log t)
+leading-within {l} {t} {start} g = record { at = λ k a b. go k a b (decLe k (length start)) }
+  where
+    go : (k : ℕ) → 1 ≤ k → k ≤ length (l .log t) → Dec (k ≤ length start) → term-at (l .log t) k ≤ t
+    go k a b (yes c) = omega (arith, g .below k a c, begins-term (g .begins) k c)
+    go k a b (no c) = omega (arith, g .added k (omega arith) b)
+
+-- and it descends: what it adds comes from itself
+pub leading-descends : {l : Leaders} {t : ℕ} (w : Won l t) → Leading l t (w .start) → Descends l (l .log t)
+leading-descends {l} {t} w g = record { at = λ k a b. go k a b (decLe k (length (w .start))) }
+  where
+    go : (k : ℕ) → 1 ≤ k → k ≤ length (l .log t) → Dec (k ≤ length (w .start)) → Comes l (l .log t) k
+    go k a b (yes e) =
+        let same = begins-term (g .begins) k e in
+        let c = g .descends .at k a e in
+        record { won = rw same at (c .won); begins = rw (same, begins-same (g .begins) k e) at (c .begins) }
+    go k a b (no e) =
+        let own = g .added k (omega arith) b in
+        record { won = rw own w; begins = rw own (begins-take k (l .log t)) }
+
+module _ {members : ℕ} {h : History} (f : Facts members h) where
+  -- the log of a term that was won holds no higher term, and descends
+  pub won-within : {t : ℕ} → Won (h .leaders) t → Within t (h .leaders .log t)
+  won-within {t} w = leading-within (f .leading t (w .box) (w .start) (w .has))
+
+  pub won-descends : {t : ℕ} → Won (h .leaders) t → Descends (h .leaders) (h .leaders .log t)
+  won-descends {t} w = leading-descends w (f .leading t (w .box) (w .start) (w .has))
+
+  -- terms never fall: up to index k a log is the log of its leader, which holds no term above
+  pub never-fall : {log : List Entry} → Descends (h .leaders) log → (i k : ℕ) → i ≤ k → k ≤ length log → term-at log i ≤ term-at log k
+  never-fall {log} d zero k a b = omega (arith, term-zero log)
+  never-fall {log} d (suc i) k a b =
+      let c = d .at k (omega arith) b in
+      let short = length-take-le k log b in
+      let same = begins-term (c .begins) (suc i) (rw short a) in
+      let most = won-within (c .won) .at (suc i) (omega arith) (omega (arith, begins-long (c .begins))) in
+      omega (arith, same, term-take log k (suc i) b a, most)
+
+-- two logs that descend and hold one term at index k are the same up to k
+pub same-term : {l : Leaders} {log other : List Entry} → Descends l log → Descends l other → (k : ℕ) → 1 ≤ k → k ≤ length log
+    → k ≤ length other → term-at log k ≡ term-at other k → take k log ≡ take k other
+same-term {l} {log} {other} d e k a b c same =
+    let p = d .at k a b .begins in
+    let q : Begins (take k other) (l .log (term-at log k)) = rw same (e .at k a c .begins) in
+    let long = length-take-le k log b in
+    let long′ = length-take-le k other c in
+    begins-whole (begins-both p q (omega arith)) (omega arith)

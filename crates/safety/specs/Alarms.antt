@@ -1,0 +1,157 @@
+-- Why an alarm sounds: what a refusal with number 6, 7 or 8 says of the box and of the message that came. Assumes nothing.
+use Prim.Native.Nat.{ℕ, _<_}
+use native.Mathlib.Omega.{arith}
+use mathlib.Core.Path.{_≡_, refl}
+use mathlib.Core.Bool.{true, false, _&&_}
+use mathlib.Core.List.{List, List·Memᴰ}
+use lib.Dec.{eqb, ltb, leb}
+use borrow.Author.Tests.{eqb-true, eqb-false, ltb-true, ltb-false, leb-true}
+use Rattle.digits.specs.Tests.{and-left, and-right}
+use Rattle.frames.specs.declared.Entry.{Entry}
+use Rattle.frames.specs.Message.{Message, vote-request, vote-answer, append, append-answer}
+use Rattle.frames.specs.Reading.{Reading, frame, refused, reading}
+use Rattle.frames.specs.OneSpelling.{frame-exactly}
+use Rattle.raft.specs.Majority.{bit, majority}
+use Rattle.raft.specs.Record.{State, leader, last-index, is-other}
+use Rattle.raft.specs.Step.{Outcome, done, refuse, won, timeout, order, prompt}
+use Rattle.raft.specs.Receive.{taken, on-vote-request, counted, counts, on-vote-answer, lacks, cuts-committed, join, on-append, answered, hear, on-append-answer, deliver, sender, receiver, is-for, arrive, arrive-read, receive}
+use Rattle.raft.specs.CommitLaws.{by-test}
+use Rattle.raft.specs.ReceiveLaws.{taken-none, Looks, Arrives}
+use Rattle.safety.specs.Park.{Event, times-out, takes-order, is-prompted, receives, outcome}
+use Rattle.safety.specs.Turn.{Sent}
+
+-- A refusal's number, and why it is given where it is an alarm.
+pub data Alarm (sent : List (List ℕ)) (s : State) (n : ℕ) : Type 0 where
+  -- 6: "append of the box's own term, and it leads"
+  two-lead : n ≡ 6 → (from to term index prior commit : ℕ) (es : List Entry) → Arrives s (append from to term index prior commit es)
+      → Sent sent (append from to term index prior commit es) → s .term ≡ term → s .role ≡ leader → Alarm sent s n
+  -- 7: "an append of no lower term would cut at or below commit"
+  cuts : n ≡ 7 → (from to term index prior commit : ℕ) (es : List Entry) → Arrives s (append from to term index prior commit es)
+      → Sent sent (append from to term index prior commit es) → Looks s term → lacks (taken term s .log) index prior ≡ false
+      → cuts-committed (taken term s) index es ≡ true → Alarm sent s n
+  -- 8: "at a leader, an append answer yes of its term names an index past its log"
+  past : n ≡ 8 → (from to term index : ℕ) → Arrives s (append-answer from to term 1 index) → Sent sent (append-answer from to term 1 index)
+      → s .term ≡ term → s .role ≡ leader → last-index s < index → Alarm sent s n
+  quiet : (n ≡ 6 → ⊥) → (n ≡ 7 → ⊥) → (n ≡ 8 → ⊥) → Alarm sent s n
+
+-- ---- refusals
+
+-- What holds of an outcome's number, where it is a refusal.
+abbrev pub Refuses : (ℕ → Type 0) → Outcome → Type 0
+Refuses Q o = (n : ℕ) → o ≡ refuse n → Q n
+
+-- What is done is no refusal,
+pub refuses-done : (Q : ℕ → Type 0) (t : State) (ms : List Message) → Refuses Q (done t ms)
+refuses-done Q t ms n e = let never : _≡_ {A = ℕ} 0 1 = cc in absurd (omega arith)
+
+-- and a refusal has its number.
+pub refuses-with : (Q : ℕ → Type 0) (m : ℕ) → Q m → Refuses Q (refuse m)
+refuses-with Q m q n e = let same : m ≡ n = cc in rw (← same) q
+
+-- ---- the messages
+
+module _ (sent : List (List ℕ)) (s : State) where
+  -- A vote request is never refused,
+  vote-request-alarms : (from term index prior : ℕ) → Refuses (Alarm sent s) (on-vote-request s from term index prior)
+  unfolding on-vote-request
+  vote-request-alarms from term index prior = refuses-done (Alarm sent s) _ _
+
+  -- nor is a vote answer.
+  vote-answer-alarms : (from term reply : ℕ) → Refuses (Alarm sent s) (on-vote-answer s from term reply)
+  unfolding on-vote-answer counted won
+  vote-answer-alarms from term reply =
+      by-test (Refuses (Alarm sent s)) (counts s term reply) _ _
+      (λ c. by-test (Refuses (Alarm sent s)) (majority _ _) _ _ (λ m. refuses-done _ _ _) (λ m. refuses-done _ _ _))
+      (λ c. refuses-done _ _ _)
+
+  -- An append is refused with 6 or 7,
+  append-alarms : (from to term index prior commit : ℕ) (es : List Entry) → Arrives s (append from to term index prior commit es)
+      → Sent sent (append from to term index prior commit es) → Refuses (Alarm sent s) (on-append s from term index prior commit es)
+  unfolding on-append join
+  append-alarms from to term index prior commit es a v =
+      by-test Q (ltb term (s .term)) _ _ (λ l. refuses-done _ _ _)
+      (λ l. by-test Q (eqb (taken term s .role) leader) _ _
+      (λ r. let o = taken-none term s 1 (ltb-false _ _ l) (eqb-true _ _ r) in
+      refuses-with (Alarm sent s) 6 (two-lead refl from to term index prior commit es a v (o .1) (o .2)))
+      (λ r. by-test Q (lacks (taken term s .log) index prior) _ _ (λ k. refuses-done _ _ _)
+      (λ k. by-test Q (cuts-committed (taken term s) index es) _ _
+      (λ c. refuses-with (Alarm sent s) 7
+      (cuts refl from to term index prior commit es a v (record { current = ltb-false _ _ l; unled = eqb-false _ _ r }) k c))
+      (λ c. refuses-done _ _ _))))
+    where
+      Q : Outcome → Type 0
+      Q = Refuses (Alarm sent s)
+
+  -- and an append answer with 8.
+  append-answer-alarms : (from to term reply index : ℕ) → Arrives s (append-answer from to term reply index)
+      → Sent sent (append-answer from to term reply index) → Refuses (Alarm sent s) (on-append-answer s from term reply index)
+  unfolding on-append-answer hear answered
+  append-answer-alarms from to term reply index a v =
+      by-test Q (leb (s .term) term && eqb (taken term s .role) leader) _ _ at-leader (λ e. refuses-done _ _ _)
+    where
+      Q : Outcome → Type 0
+      Q = Refuses (Alarm sent s)
+
+      at-leader : (leb (s .term) term && eqb (taken term s .role) leader) ≡ true → Q (hear (taken term s) from reply index)
+      at-leader e =
+          let role = eqb-true (taken term s .role) leader (and-right (leb (s .term) term) _ e) in
+          let o = taken-none term s 1 (leb-true _ _ (and-left (leb (s .term) term) _ e)) role in
+          rw (o .0) (by-test Q (eqb reply 1 && ltb (last-index s) index) _ _
+          (λ h. let said = eqb-true reply 1 (and-left (eqb reply 1) _ h) in
+          refuses-with (Alarm sent s) 8
+          (past refl from to term index (rw said at a) (rw said at v) (o .1) (o .2) (ltb-true _ _ (and-right (eqb reply 1) _ h))))
+          (λ h. refuses-done _ _ _))
+
+  -- ---- any event
+
+  -- Each message that arrives, where it was sent,
+  deliver-alarms : (m : Message) → Arrives s m → Sent sent m → Refuses (Alarm sent s) (deliver m s)
+  unfolding deliver
+  deliver-alarms (vote-request from to term index prior) a v = vote-request-alarms from term index prior
+  deliver-alarms (vote-answer from to term reply) a v = vote-answer-alarms from term reply
+  deliver-alarms (append from to term index prior commit es) a v = append-alarms from to term index prior commit es a v
+  deliver-alarms (append-answer from to term reply index) a v = append-answer-alarms from to term reply index a v
+
+  -- a number that is no alarm's
+  no-alarm : (n : ℕ) → (n ≡ 6 → ⊥) × (n ≡ 7 → ⊥) × (n ≡ 8 → ⊥) → Refuses (Alarm sent s) (refuse n)
+  no-alarm n q = refuses-with (Alarm sent s) n (quiet (q .0) (q .1) (q .2))
+
+  -- any bytes that were sent,
+  frame-alarms : (bytes : List ℕ) → List·Memᴰ bytes sent → Refuses (Alarm sent s) (receive bytes s)
+  unfolding receive arrive-read arrive is-for
+  frame-alarms bytes there = go (reading bytes) refl
+    where
+      go : (r : Reading) → reading bytes ≡ r → Refuses (Alarm sent s) (arrive-read r s)
+      go (frame m) e =
+          let f = frame-exactly bytes m e in
+          by-test (Refuses (Alarm sent s)) (eqb (receiver m) (s .me) && is-other (s .me) (s .members) (sender m)) _ _
+          (λ h. deliver-alarms m
+          (record {
+            obeyed = f .0;
+            fits = f .1;
+            mine = eqb-true _ _ (and-left (eqb (receiver m) (s .me)) _ h);
+            other = and-right (eqb (receiver m) (s .me)) _ h;
+          })
+          (record { bytes = bytes; there = there; read = e }))
+          (λ h. no-alarm 2 (omega arith))
+      go refused e = no-alarm 1 (omega arith)
+
+  -- **Why an alarm sounds,** at any event.
+  pub event-alarms : (e : Event sent) → Refuses (Alarm sent s) (outcome e s)
+  unfolding outcome timeout order prompt won
+  event-alarms times-out =
+      by-test Q (eqb (s .role) leader) _ _ (λ r. refuses-done _ _ _)
+      (λ r. by-test Q (eqb (s .term) _) _ _ (λ t. no-alarm 9 (omega arith))
+      (λ t. by-test Q (majority (s .members) (bit (s .me))) _ _ (λ m. refuses-done _ _ _) (λ m. refuses-done _ _ _)))
+    where
+      Q : Outcome → Type 0
+      Q = Refuses (Alarm sent s)
+  event-alarms (takes-order o l) =
+      by-test Q (eqb (s .role) leader) _ _
+      (λ r. by-test Q (leb _ (last-index s)) _ _ (λ f. no-alarm 4 (omega arith)) (λ f. refuses-done _ _ _)) (λ r. no-alarm 3 (omega arith))
+    where
+      Q : Outcome → Type 0
+      Q = Refuses (Alarm sent s)
+  event-alarms is-prompted =
+      by-test (Refuses (Alarm sent s)) (eqb (s .role) leader) _ _ (λ r. refuses-done _ _ _) (λ r. no-alarm 3 (omega arith))
+  event-alarms (receives bytes there) = frame-alarms bytes there

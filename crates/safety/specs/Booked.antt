@@ -1,0 +1,70 @@
+-- What boxes hand out, and what the appends that were sent carry, is in the book: over one move, whatever the telling of the run. Assumes nothing.
+use Prim.Native.Nat.{ℕ}
+use mathlib.Core.Path.{_≡_}
+use mathlib.Core.List.{List, _++_}
+use mathlib.Core.Logic.{_⊎_, inl, inr}
+use lib.ListN.{take}
+use Rattle.frames.specs.declared.Entry.{Entry}
+use Rattle.frames.specs.Message.{Message, append, text}
+use Rattle.frames.specs.Reading.{frame, reading}
+use Rattle.raft.specs.Record.{State, leader, handed-out}
+use Rattle.raft.specs.SendLaws.{All}
+use Rattle.history.specs.Begins.{Begins, begins-trans, begins-nothing}
+use Rattle.history.specs.History.{History}
+use Rattle.history.specs.Grow.{first-grows}
+use Rattle.history.specs.Later.{Later}
+use Rattle.history.specs.Told.{sending-won}
+use Rattle.safety.specs.Park.{frames}
+use Rattle.safety.specs.Turn.{Sent, Offers, Tells}
+use Rattle.safety.specs.HistoryLaws.{sent-cases}
+use Rattle.safety.specs.Carried.{Kept}
+use Rattle.safety.specs.HandsOut.{HandsOut, leads, same, carried}
+use Rattle.safety.specs.Runs.{Runs, InBook, empty, begins}
+
+-- Each append that was sent carries what is in a book.
+abbrev pub Carrying : (List Entry → Type 0) → History → List (List ℕ) → Type 0
+Carrying B h sent =
+    (from to term index prior commit : ℕ) (es : List Entry) → Sent sent (append from to term index prior commit es)
+    → B (take commit (h .leaders .log term))
+
+-- So does each box hand out what is in it.
+pub record Booked (B : List Entry → Type 0) (h : History) (box : ℕ → State) (sent : List (List ℕ)) : Type 0 where
+  pub boxes : (j : ℕ) → B (handed-out (box j))
+  pub appends : Carrying B h sent
+
+-- A beginning of what is in the book is in it.
+pub in-book-less : (R : Runs) {now : R .Moment} {run : R .Run (R .first) now} {a b : List Entry} → Begins a b → InBook R run b → InBook R run a
+in-book-less R x (empty e) = empty (begins-nothing (rw e at x))
+in-book-less R x (begins moment until on whole i term l y) = begins moment until on whole i term l (begins-trans x y)
+
+module _ {B C : List Entry → Type 0} (more : (log : List Entry) → B log → C log) where
+  -- What the box that has moved hands out, where it is in the book if the box leads.
+  pub hands-booked : {sent : List (List ℕ)} {h : History} {s t : State} → ((a b : List Entry) → Begins a b → C b → C a) → B (handed-out s)
+      → Carrying B h sent → (t .role ≡ leader → C (handed-out t)) → HandsOut sent h s t → C (handed-out t)
+  hands-booked less had sent own (leads r) = own r
+  hands-booked less had sent own (same e) = rw e (more _ had)
+  hands-booked less had sent own (carried from to term index prior commit es s b) =
+      less _ _ b (more _ (sent from to term index prior commit es s))
+
+  -- What the appends carry that were sent before,
+  pub old-booked : (mask : ℕ) {h later : History} {sent : List (List ℕ)} → Later h later
+      → ((m : Message) → Sent sent m → Rattle.history.specs.Told.Tells mask h m) → Carrying B h sent → Carrying C later sent
+  unfolding Rattle.history.specs.Told.Tells
+  old-booked mask l told had from to term index prior commit es s =
+      let x = told _ s in
+      rw (← first-grows (l .leaders) (record { won = sending-won x; within = x .hands .within }))
+      (more _ (had from to term index prior commit es s))
+
+  -- and those of the box that has moved: a leader's append carries what it hands out.
+  pub sends-booked : (mask : ℕ) {h later : History} {t : State} {sent : List (List ℕ)} (ms : List Message) → Later h later
+      → ((m : Message) → Sent sent m → Rattle.history.specs.Told.Tells mask h m) → Carrying B h sent → Kept later t
+      → (t .role ≡ leader → C (handed-out t)) → All (λ m. reading (text m) ≡ frame m) ms → All (Tells t) ms
+      → Carrying C later (frames ms ++ sent)
+  unfolding Tells handed-out
+  sends-booked mask {h} {later} {t} {sent} ms l told had k own reads tells from to term index prior commit es s =
+      go (sent-cases (Tells t) ms sent reads tells (append from to term index prior commit es) s)
+    where
+      go : Offers t from term index prior commit es ⊎ Sent sent (append from to term index prior commit es)
+          → C (take commit (later .leaders .log term))
+      go (inl o) = rw (o .now, o .known, k .leads (o .leads) .log) (own (o .leads))
+      go (inr o) = old-booked mask l told had from to term index prior commit es o

@@ -1,0 +1,70 @@
+-- Demand 3's run with the boxes' disks: power fails at any byte, and a box comes back by opening what is there. Assumes nothing.
+use Prim.Native.Nat.{ℕ, _+_}
+use mathlib.Core.Path.{_≡_}
+use mathlib.Core.Bool.{true}
+use mathlib.Core.List.{List, [], _++_}
+use lib.ListN.{length, take}
+use Rattle.digits.specs.Room.{over}
+use Rattle.frames.specs.Message.{Message}
+use Rattle.raft.specs.Record.{State, fresh, is-membership}
+use Rattle.raft.specs.Journal.{head, journaled}
+use Rattle.raft.specs.Step.{done}
+use Rattle.journal.specs.Opening.{opened, opening}
+use Rattle.safety.specs.Park.{Event, outcome, put, frames}
+
+-- A box with its disk, and the place on it at which the next line is written.
+pub record Seat : Type 0 where
+  pub now : State
+  pub disk : List ℕ
+  pub place : ℕ
+
+-- A site: a seat for each box number, and the bytes of every frame that was ever sent.
+pub record Site : Type 0 where
+  pub seat : ℕ → Seat
+  pub sent : List (List ℕ)
+
+-- "Take any run of fresh boxes with the same fixed membership and different numbers." Each has its head on its disk. ("No event is taken before the
+-- head is whole; a box whose head was torn is started again.")
+unfoldable pub built : ℕ → Site
+built mask = record { seat = λ i. record { now = fresh i mask; disk = head i mask; place = length (head i mask) }; sent = [] }
+
+-- A seat's disk with bytes written at the place.
+abbrev pub written : Seat → List ℕ → List ℕ
+written b bytes = over (b .disk) (b .place) bytes
+
+-- Box i is replaced, and messages have left.
+unfoldable pub seated : Site → ℕ → Seat → List Message → Site
+seated a i b messages = record { seat = put (a .seat) i b; sent = frames messages ++ a .sent }
+
+-- What may happen at a site, to one member.
+pub data Happens (mask : ℕ) (a : Site) : Site → Type 0 where
+  -- "a step counts, and its messages leave, only once its line, if any, is whole"
+  steps : (i : ℕ) → is-membership i mask ≡ true → (e : Event (a .sent)) (t : State) (messages : List Message)
+      → outcome e (a .seat i .now) ≡ done t messages
+      → Happens mask a (seated a i (record {
+        now = t;
+        disk = written (a .seat i) (journaled (a .seat i .now) t);
+        place = a .seat i .place + length (journaled (a .seat i .now) t);
+      }) messages)
+  -- "Power may fail at any byte of a journal line .. Whole lines stay, and a box comes back only by its journal": so many bytes of a step's line
+  -- are on the disk, nothing was sent, and the journal is opened
+  fails : (i : ℕ) → is-membership i mask ≡ true → (e : Event (a .sent)) (t : State) (messages : List Message)
+      → outcome e (a .seat i .now) ≡ done t messages → (k : ℕ) (u : State) (n : ℕ)
+      → opening i (written (a .seat i) (take k (journaled (a .seat i .now) t))) ≡ opened u n
+      → Happens mask a (seated a i (record { now = u; disk = written (a .seat i) (take k (journaled (a .seat i .now) t)); place = n }) [])
+  -- power fails between steps, and the journal is opened
+  reopens : (i : ℕ) → is-membership i mask ≡ true → (u : State) (n : ℕ) → opening i (a .seat i .disk) ≡ opened u n
+      → Happens mask a (seated a i (record { now = u; disk = a .seat i .disk; place = n }) [])
+  -- the host cuts off what is behind the place
+  trims : (i : ℕ) → is-membership i mask ≡ true
+      → Happens mask a (seated a i (record { now = a .seat i .now; disk = take (a .seat i .place) (a .seat i .disk); place = a .seat i .place }) [])
+
+-- From one moment of a run to a later one.
+pub data Goes (mask : ℕ) (a : Site) : Site → Type 0 where
+  stays : Goes mask a a
+  goes : {b c : Site} → Goes mask a b → Happens mask b c → Goes mask a c
+
+-- One run behind the other.
+unfoldable pub goes-both : {mask : ℕ} {a b c : Site} → Goes mask a b → Goes mask b c → Goes mask a c
+goes-both u stays = u
+goes-both u (goes v h) = goes (goes-both u v) h

@@ -1,0 +1,184 @@
+-- A history that has grown by what one box did: it is later, and for every other box as it was. So the others stay kept. Assumes nothing.
+use Prim.Native.Nat.{ℕ, suc, _≤_, _<_}
+use mathlib.Core.Path.{_≡_, refl, _∙_}
+use mathlib.Core.List.{List}
+use mathlib.Core.Logic.{_⊎_, inl, inr}
+use Rattle.frames.specs.declared.Entry.{Entry}
+use Rattle.frames.specs.Message.{vote-answer}
+use Rattle.raft.specs.Record.{State}
+use Rattle.history.specs.History.{History, Facts}
+use Rattle.history.specs.Book.{one-leader}
+use Rattle.history.specs.Grow.{asks-now, Asks, put-other, raised, stood, Votes, gave, with-leaders, winner, longer, moved}
+use Rattle.history.specs.Later.{Later, later-self, later-trans, raised-later, asks-later, gives-later, adds-later, accepts-later}
+use Rattle.history.specs.Steps.{asks, gives, wins, adds, accepts}
+use Rattle.history.specs.Told.{Tells, hands-later, tells-later}
+use Rattle.safety.specs.Carried.{Standing, Leading, Kept}
+
+-- No other box has moved, voted or won, and the logs of the terms that others won are as they were.
+pub record Grown (i : ℕ) (h more : History) : Type 0 where
+  pub later : Later h more
+  pub term : (j : ℕ) → (j ≡ i → ⊥) → more .term j ≡ h .term j
+  pub log : (j : ℕ) → (j ≡ i → ⊥) → more .log j ≡ h .log j
+  pub voted : (j t d : ℕ) → (j ≡ i → ⊥) → more .voted j t d → h .voted j t d
+  pub won : (t d : ℕ) (start : List Entry) → (d ≡ i → ⊥) → more .leaders .won t d start → h .leaders .won t d start
+  pub logs : (t d : ℕ) (start : List Entry) → (d ≡ i → ⊥) → h .leaders .won t d start → more .leaders .log t ≡ h .leaders .log t
+
+-- Nothing has happened,
+pub grown-self : (i : ℕ) (h : History) → Grown i h h
+grown-self i h =
+    record {
+      later = later-self h;
+      term = λ j n. refl;
+      log = λ j n. refl;
+      voted = λ j t d n v. v;
+      won = λ t d start n w. w;
+      logs = λ t d start n w. refl;
+    }
+
+-- or one thing behind the other.
+pub grown-trans : {i : ℕ} {a b c : History} → Grown i a b → Grown i b c → Grown i a c
+grown-trans p q =
+    record {
+      later = later-trans (p .later) (q .later);
+      term = λ j n. q .term j n ∙ p .term j n;
+      log = λ j n. q .log j n ∙ p .log j n;
+      voted = λ j t d n v. p .voted j t d n (q .voted j t d n v);
+      won = λ t d start n w. p .won t d start n (q .won t d start n w);
+      logs = λ t d start n w. q .logs t d start n (p .later .leaders .won t d start w) ∙ p .logs t d start n w;
+    }
+
+-- ---- the steps
+
+-- A term is taken,
+pub raised-grown : (i s : ℕ) (h : History) → h .term i ≤ s → Grown i h (raised i s h)
+unfolding raised
+raised-grown i s h l =
+    record {
+      later = raised-later i s h l;
+      term = λ j n. put-other (h .term) i s j n;
+      log = λ j n. refl;
+      voted = λ j t d n v. v;
+      won = λ t d start n w. w;
+      logs = λ t d start n w. refl;
+    }
+
+-- a vote that was not box i's was given before
+other-voted : {A : Type 0} {i t c j s d : ℕ} → (j ≡ i → ⊥) → A ⊎ Votes i t c j s d → A
+other-voted n (inl v) = v
+other-voted n (inr q) = absurd (n (q .box))
+
+-- a candidate asks,
+pub asks-grown : (i : ℕ) (h : History) → Grown i h (asks i h)
+unfolding asks stood gave
+asks-grown i h =
+    record {
+      later = asks-later i h;
+      term = λ j n. put-other (h .term) i (suc (h .term i)) j n;
+      log = λ j n. refl;
+      voted = λ j t d n v. other-voted n v;
+      won = λ t d start n w. w;
+      logs = λ t d start n w. refl;
+    }
+
+-- a vote is given,
+pub gives-grown : (i t c : ℕ) (h : History) → h .term i ≤ t → Grown i h (gives i t c h)
+unfolding gives gave raised
+gives-grown i t c h l =
+    record {
+      later = gives-later i t c h l;
+      term = λ j n. put-other (h .term) i t j n;
+      log = λ j n. refl;
+      voted = λ j t d n v. other-voted n v;
+      won = λ t d start n w. w;
+      logs = λ t d start n w. refl;
+    }
+
+-- an append is accepted,
+pub accepts-grown : (i s index : ℕ) (es : List Entry) (h : History) → h .term i ≤ s → Grown i h (accepts i s index es h)
+unfolding accepts moved
+accepts-grown i s index es h l =
+    record {
+      later = accepts-later i s index es h l;
+      term = λ j n. put-other (h .term) i s j n;
+      log = λ j n. put-other (h .log) i _ j n;
+      voted = λ j t d n v. v;
+      won = λ t d start n w. w;
+      logs = λ t d start n w. refl;
+    }
+
+-- A term that another box has won is not the one that box c has won.
+apart : {members : ℕ} {h : History} → members < 128 → Facts members h → (t c d : ℕ) (start other : List Entry) → h .leaders .won t c start
+    → h .leaders .won t d other → (d ≡ c → ⊥) → ⊥
+apart small f t c d start other v w n = n (one-leader small f t d c other start w v)
+
+-- a candidate wins,
+pub wins-grown : {members : ℕ} {h : History} (c : ℕ) → members < 128 → Facts members (wins c h) → Later h (wins c h) → Grown c h (wins c h)
+unfolding wins moved with-leaders winner
+wins-grown {members} {h} c small f l =
+    record {
+      later = l;
+      term = λ j n. put-other (h .term) c _ j n;
+      log = λ j n. put-other (h .log) c _ j n;
+      voted = λ j t d n v. v;
+      won = λ t d start n w. before n w;
+      logs = λ t d start n w. put-other (h .leaders .log) (h .term c) (h .log c) t
+          (λ e. apart small f (h .term c) c d (h .log c) start (inr asks-now) (inl (rw e at w)) n);
+    }
+  where
+    before : {t d : ℕ} {start : List Entry} → (d ≡ c → ⊥) → h .leaders .won t d start ⊎ Asks c (h .term c) (h .log c) t d start
+        → h .leaders .won t d start
+    before n (inl w) = w
+    before n (inr q) = absurd (n (q .box))
+
+-- and a leader adds an entry.
+pub adds-grown : {members : ℕ} {h : History} (c : ℕ) (e : Entry) → members < 128 → Facts members h → (start : List Entry)
+    → h .leaders .won (h .term c) c start → e .term ≡ h .term c → Grown c h (adds c e h)
+unfolding adds moved with-leaders longer
+adds-grown {members} {h} c e small f start own new =
+    record {
+      later = adds-later c e f new;
+      term = λ j n. put-other (h .term) c _ j n;
+      log = λ j n. put-other (h .log) c _ j n;
+      voted = λ j t d n v. v;
+      won = λ t d start n w. w;
+      logs = λ t d other n w. put-other (h .leaders .log) (h .term c) _ t
+          (λ x. apart small f (h .term c) c d start other own (rw x at w) n);
+    }
+
+-- ---- what stays kept
+
+module _ {h more : History} {s : State} (small : s .members < 128) (f : Facts (s .members) h) (l : Later h more) where
+  -- a candidate, where it has won nothing
+  pub standing-later : ((start : List Entry) → more .leaders .won (s .term) (s .me) start → h .leaders .won (s .term) (s .me) start)
+      → Standing h s → Standing more s
+  unfolding Tells
+  standing-later same o =
+      record {
+        asked = l .asked (s .term) (s .me) (s .log) (o .asked);
+        unwon = λ start w. o .unwon start (same start w);
+        votes = λ j m v. tells-later small f l (vote-answer j (s .me) (s .term) 1) (λ e. o .votes j m v) refl;
+      }
+
+  -- a leader, where its term's log is as it was
+  pub leading-later : ((start : List Entry) → h .leaders .won (s .term) (s .me) start → more .leaders .log (s .term) ≡ h .leaders .log (s .term))
+      → Leading h s → Leading more s
+  leading-later same o =
+      record {
+        start = o .start;
+        won = l .leaders .won (s .term) (s .me) (o .start) (o .won);
+        log = same (o .start) (o .won) ∙ o .log;
+        acked = λ j m a. l .acked j (s .term) _ (o .acked j m a);
+      }
+
+-- **Another box stays kept.**
+pub kept-aside : {i : ℕ} {h more : History} (s : State) → s .members < 128 → Facts (s .members) h → Grown i h more → (s .me ≡ i → ⊥)
+    → Kept h s → Kept more s
+kept-aside s small f g n o =
+    record {
+      term = g .term (s .me) n ∙ o .term;
+      log = g .log (s .me) n ∙ o .log;
+      vote = λ d v. o .vote d (g .voted (s .me) (s .term) d n v);
+      hands = hands-later small f (g .later) (o .hands);
+      stands = λ r. standing-later small f (g .later) (λ start w. g .won (s .term) (s .me) start n w) (o .stands r);
+      leads = λ r. leading-later small f (g .later) (λ start w. g .logs (s .term) (s .me) start n w) (o .leads r);
+    }

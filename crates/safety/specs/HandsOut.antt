@@ -1,0 +1,100 @@
+-- Where what a box hands out comes from, behind each move: it leads; or it is what the box handed out before, nothing, or a beginning of what an
+-- append that was sent carried. Assumes nothing.
+use Prim.Native.Nat.{ℕ, _+_, _≤_, max, min}
+use native.Mathlib.Decide.{decLe}
+use native.Mathlib.Omega.{arith}
+use mathlib.Core.Path.{_≡_, refl}
+use mathlib.Core.Bool.{false}
+use mathlib.Core.List.{List}
+use lib.ListN.{length, take}
+use lib.Seq.{take-take, length-take-le}
+use Rattle.frames.specs.declared.Entry.{Entry}
+use Rattle.frames.specs.Message.{Message, append}
+use Rattle.raft.specs.Record.{State, leader, handed-out}
+use Rattle.raft.specs.Commit.{settle}
+use Rattle.raft.specs.Step.{standing, leading, ordered}
+use Rattle.raft.specs.Receive.{taken, voting, adding, lacks, joined, following, commit-after, joining, heard}
+use Rattle.raft.specs.ReceiveLaws.{taken-keeps, Looks}
+use Rattle.history.specs.Begins.{Begins, begins-same, begins-take}
+use Rattle.history.specs.History.{History}
+use Rattle.history.specs.Descent.{won-descends}
+use Rattle.history.specs.Join.{Joins, offered-long, joins-first, joined-joins}
+use Rattle.history.specs.Handed.{joins-handed}
+use Rattle.history.specs.Told.{Sending, Tells, sending-won}
+use Rattle.safety.specs.Turn.{Sent}
+use Rattle.safety.specs.Endings.{Came, Ending, rests, stands, leads-alone, takes-up, prompts, takes, votes, votes-not, wins, counts, declines, wants, joins, hears, hears-again}
+use Rattle.safety.specs.Next.{Known, known-small}
+
+pub data HandsOut (sent : List (List ℕ)) (h : History) (s t : State) : Type 0 where
+  leads : t .role ≡ leader → HandsOut sent h s t
+  same : handed-out t ≡ handed-out s → HandsOut sent h s t
+  carried : (from to term index prior commit : ℕ) (es : List Entry) → Sent sent (append from to term index prior commit es)
+      → Begins (handed-out t) (take commit (h .leaders .log term)) → HandsOut sent h s t
+
+-- An append is accepted: nothing that was handed out is cut, and more is handed out only as the leader does.
+joined-hands : {h : History} {s : State} (from term index prior commit : ℕ) (es : List Entry) → Known h s
+    → Sending (s .members) h from term index prior commit es → s .term ≤ term → lacks (s .log) index prior ≡ false
+    → (P : List Entry → Type 0) → P (take (s .commit) (s .log))
+    → ((log : List Entry) → Begins log (take commit (h .leaders .log term)) → P log)
+    → P (take (commit-after (s .commit) commit (index + length es)) (joined (s .log) index es))
+joined-hands {h} {s} from term index prior commit es k sent l has P own sender = go (decLe (min commit m) n)
+  where
+    n : ℕ
+    n = s .commit
+
+    m : ℕ
+    m = index + length es
+
+    log : List Entry
+    log = h .leaders .log term
+
+    join : Joins (s .log) log m (joined (s .log) index es)
+    join = joined-joins (s .log) (sent .offered) has (rw (k .kept .log) at (k .facts .descends (s .me))) (won-descends (k .facts) (sending-won sent))
+
+    kept : Begins (take n (s .log)) (joined (s .log) index es)
+    kept = joins-handed (known-small k) (k .facts) (k .kept .hands) (sending-won sent) l join
+
+    go : Dec (min commit m ≤ n) → P (take (max n (min commit m)) (joined (s .log) index es))
+    go (yes a) =
+        let all : max n (min commit m) ≡ n = omega arith in
+        rw (all, rw (length-take-le n (s .log) (k .kept .hands .within)) at (kept .first)) own
+    go (no a) =
+        let all : max n (min commit m) ≡ min commit m = omega arith in
+        let long = length-take-le m log (offered-long (sent .offered)) in
+        let first = begins-same (joins-first join) (min commit m) (omega arith) in
+        rw (all, ← first, take-take (min commit m) m log (omega arith), ← take-take (min commit m) commit log (omega arith))
+        (sender _ (begins-take (min commit m) (take commit log)))
+
+-- A term that is taken changes nothing of it.
+taken-same-hands : (term : ℕ) (s : State) → take (taken term s .commit) (taken term s .log) ≡ take (s .commit) (s .log)
+taken-same-hands term s = rw (taken-keeps term s .2, taken-keeps term s .3)
+
+-- the accepted append, its term taken
+joins-hands-out : {sent : List (List ℕ)} {h : History} {s : State} → Known h s → ((m : Message) → Sent sent m → Tells (s .members) h m)
+    → (from to term index prior commit : ℕ) (es : List Entry) → Came sent s (append from to term index prior commit es) → Looks s term
+    → lacks (taken term s .log) index prior ≡ false → HandsOut sent h s (joining (taken term s) index commit es)
+unfolding joining handed-out Tells
+joins-hands-out {sent} {h} {s} k told from to term index prior commit es c look has =
+    joined-hands from term index prior commit es k (told _ (c .sent-once)) (look .current) (rw (taken-keeps term s .2) at has)
+    (λ log. handed-out (joining (taken term s) index commit es) ≡ log → HandsOut sent h s (joining (taken term s) index commit es)) same
+    (λ log b e. carried from to term index prior commit es (c .sent-once) (rw e b)) (rw (taken-keeps term s .2, taken-keeps term s .3))
+
+-- **Each ending hands out so.**
+pub ending-hands : {sent : List (List ℕ)} {h : History} {s t : State} {ms : List Message} → Known h s
+    → ((m : Message) → Sent sent m → Tells (s .members) h m) → Ending sent s t ms → HandsOut sent h s t
+unfolding handed-out standing leading ordered settle voting adding following heard
+ending-hands k told rests = same refl
+ending-hands k told stands = same refl
+ending-hands k told (leads-alone most) = leads refl
+ending-hands k told (takes-up r room o) = leads r
+ending-hands k told (prompts r) = leads r
+ending-hands {s = s} k told (takes term) = same (taken-same-hands term s)
+ending-hands {s = s} k told (votes from to term index prior c g) = same (taken-same-hands term s)
+ending-hands {s = s} k told (votes-not from term) = same (taken-same-hands term s)
+ending-hands k told (wins from to term reply c n most) = leads refl
+ending-hands k told (counts from to term reply c n) = same refl
+ending-hands k told (declines from) = same refl
+ending-hands {s = s} k told (wants from term) = same (taken-same-hands term s)
+ending-hands k told (joins from to term index prior commit es c look has) = joins-hands-out k told from to term index prior commit es c look has
+ending-hands k told (hears from to term reply index c n) = leads (n .leads)
+ending-hands k told (hears-again from to term reply index c n) = leads (n .leads)

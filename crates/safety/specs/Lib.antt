@@ -1,0 +1,37 @@
+-- Demand 3: the runs of a park over the boxes' own steps; what a move may change, one leader a term and alarm 6 from that alone; the run with
+-- disks; then the history that is carried along a run, the one book, and demand 3 itself (Demand3).
+pub mod Park
+pub mod Turn
+pub mod ActLaws
+pub mod TurnLaws
+pub mod Agreement
+pub mod History
+pub mod HistoryLaws
+pub mod Votes
+pub mod Winners
+pub mod OneLeader
+pub mod Alarms
+pub mod NoAlarm
+pub mod Elects
+pub mod Commits
+pub mod Disks
+pub mod DisksLaws
+pub mod Endings
+pub mod Carried
+pub mod Grown
+pub mod Next
+pub mod CarryStands
+pub mod CarryVotes
+pub mod CarryLeads
+pub mod CarryJoins
+pub mod Carry
+pub mod CarriedRun
+pub mod OneBook
+pub mod NoAlarms
+pub mod OnDisk
+pub mod Runs
+pub mod HandsOut
+pub mod Booked
+pub mod BookRun
+pub mod BookSite
+pub mod Demand3

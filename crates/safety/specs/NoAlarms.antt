@@ -1,0 +1,72 @@
+-- Demand 3: "Alarms 6, 7 and 8 never sound": 7, because a leader's log begins with what the box hands out; 8, because what was acknowledged is in
+-- the leader's log. (6 is in NoAlarm.) Assumes nothing.
+use Prim.Native.Nat.{ℕ, _<_}
+use native.Mathlib.Decide.{decLt}
+use native.Mathlib.Omega.{arith}
+use mathlib.Core.Path.{_≡_, refl, sym, _∙_}
+use mathlib.Core.Bool.{true, false, true≢false}
+use mathlib.Core.List.{List, List·Memᴰ·not-nil}
+use borrow.Author.Tests.{lt-ltb}
+use Rattle.frames.specs.declared.Entry.{Entry}
+use Rattle.frames.specs.Message.{Message, append, append-answer}
+use Rattle.raft.specs.Record.{leader, last-index}
+use Rattle.raft.specs.Step.{refuse}
+use Rattle.raft.specs.Receive.{taking, taken, lacks, cuts-committed}
+use Rattle.raft.specs.ReceiveLaws.{taken-by, taken-term, Looks}
+use Rattle.history.specs.History.{History}
+use Rattle.history.specs.Handed.{Hands, hands-higher}
+use Rattle.history.specs.Told.{Tells}
+use Rattle.history.specs.Alarms.{no-loss, no-excess}
+use Rattle.safety.specs.Park.{Park, start, Event, outcome, Reached}
+use Rattle.safety.specs.Turn.{Sent}
+use Rattle.safety.specs.Alarms.{Alarm, two-lead, cuts, past, quiet, event-alarms}
+use Rattle.safety.specs.NoAlarm.{no-alarm-6}
+use Rattle.safety.specs.Carried.{Carried}
+use Rattle.safety.specs.CarriedRun.{reached-proper, reached-carried}
+use Rattle.safety.specs.OneBook.{no-member}
+
+-- Where something was sent, a member has moved.
+pub sent-small : (mask : ℕ) (p : Park) → Reached mask p → (m : Message) → Sent (p .sent) m → mask < 128
+unfolding start
+sent-small mask p r m s = go (decLt mask 128)
+  where
+    go : Dec (mask < 128) → mask < 128
+    go (yes small) = small
+    go (no n) = let e = no-member mask n r in absurd (List·Memᴰ·not-nil (rw e at (s .there)))
+
+module _ (mask : ℕ) {h : History} {p : Park} (r : Reached mask p) (c : Carried mask h p) (i : ℕ) where
+  -- what a box hands out, a message's term being taken
+  taken-hands : (term : ℕ) → Hands mask h (taken term (p .box i) .term) (taken term (p .box i) .log) (taken term (p .box i) .commit)
+  unfolding taking
+  taken-hands term =
+      let x = rw (reached-proper mask p r i .ours) at (c .kept i .hands) in
+      taken-by (λ t. Hands mask h (t .term) (t .log) (t .commit)) term (p .box i) (λ l. hands-higher x term (omega arith)) (λ l. x)
+
+  -- An append that was sent cuts nothing that is committed,
+  cuts-nothing : (from to term index prior commit : ℕ) (es : List Entry) → Sent (p .sent) (append from to term index prior commit es)
+      → Looks (p .box i) term → lacks (taken term (p .box i) .log) index prior ≡ false → cuts-committed (taken term (p .box i)) index es ≡ false
+  unfolding Tells
+  cuts-nothing from to term index prior commit es s look has =
+      no-loss (sent-small mask p r _ s) (c .facts) (c .tells _ s) (taken term (p .box i)) (taken-hands term)
+      (omega (arith, taken-term term (p .box i) (look .current))) has
+
+  -- and a yes that was sent names no index past the log of the leader of its term.
+  names-none-past : (from to index : ℕ) → Sent (p .sent) (append-answer from to (p .box i .term) 1 index) → p .box i .role ≡ leader
+      → last-index (p .box i) < index → ⊥
+  unfolding Tells
+  names-none-past from to index s l x =
+      let none = no-excess (c .facts) (p .box i) from index (c .kept i .leads l .log) (c .tells _ s refl) in
+      true≢false (sym (lt-ltb _ _ x) ∙ none)
+
+-- **Alarms 6, 7 and 8 never sound,** at any event of any box at any moment of a run.
+pub no-alarm : (mask : ℕ) (p : Park) → Reached mask p → (i : ℕ) (e : Event (p .sent)) (n : ℕ) → outcome e (p .box i) ≡ refuse n
+    → (n ≡ 6 → ⊥) × (n ≡ 7 → ⊥) × (n ≡ 8 → ⊥)
+no-alarm mask p r i e n o = go (event-alarms (p .sent) (p .box i) e n o)
+  where
+    go : Alarm (p .sent) (p .box i) n → (n ≡ 6 → ⊥) × (n ≡ 7 → ⊥) × (n ≡ 8 → ⊥)
+    go (two-lead six from to term index prior commit es a s t l) = absurd (no-alarm-6 mask p r i e (rw six at o))
+    go (cuts seven from to term index prior commit es a s look has y) =
+        absurd (true≢false (sym y ∙ cuts-nothing mask r (reached-carried mask p r .carried) i from to term index prior commit es s look has))
+    go (past eight from to term index a s t l x) =
+        absurd (names-none-past mask r (reached-carried mask p r .carried) i from to index (rw t s) l x)
+    go (quiet a b c) = (a, b, c)

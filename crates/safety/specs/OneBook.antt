@@ -1,0 +1,108 @@
+-- What follows for the boxes of a run from the history that is carried along it: what is handed out makes one book, and every leader holds it.
+-- Assumes nothing.
+use Prim.Native.Nat.{ℕ, _≤_, _<_}
+use native.Mathlib.Decide.{decLt}
+use native.Mathlib.Omega.{arith}
+use mathlib.Core.Path.{_≡_, refl}
+use mathlib.Core.List.{List}
+use mathlib.Core.Logic.{_⊎_, inl}
+use Rattle.frames.specs.declared.Entry.{Entry}
+use Rattle.raft.specs.Record.{fresh, handed-out}
+use Rattle.raft.specs.RecordLaws.{member-facts}
+use Rattle.history.specs.Begins.{Begins, nothing-begins, begins-trans}
+use Rattle.history.specs.History.{History, Won}
+use Rattle.history.specs.LeaderComplete.{leader-complete}
+use Rattle.history.specs.Book.{Covered, nothing, written, sender-holds, one-book}
+use Rattle.history.specs.Steps.{fresh-park}
+use Rattle.history.specs.Later.{covered-later}
+use Rattle.safety.specs.Park.{Park, start, steps, restarts, Run, stays, moves, run-both, Reached, Leads}
+use Rattle.safety.specs.Carried.{Carried}
+use Rattle.safety.specs.CarriedRun.{Onward, reached-proper, run-carried, reached-carried}
+
+-- ---- a membership that is no mask
+
+-- Where no number is a member's, nothing moves.
+pub no-member : (mask : ℕ) → (mask < 128 → ⊥) → {p : Park} → Reached mask p → p ≡ start mask
+no-member mask n stays = refl
+no-member mask n (moves u (steps i m e t ms o)) = absurd (n (member-facts i mask m .mask))
+no-member mask n (moves u (restarts i m)) = absurd (n (member-facts i mask m .mask))
+
+-- A box that leads has moved.
+pub leads-small : (mask : ℕ) (p : Park) → Reached mask p → (i term : ℕ) → Leads (p .box i) term → mask < 128
+unfolding start fresh
+leads-small mask p r i term l = go (decLt mask 128)
+  where
+    go : Dec (mask < 128) → mask < 128
+    go (yes s) = s
+    go (no n) = let e = no-member mask n r in absurd (omega (arith, rw e at (l .role)))
+
+-- ---- the boxes and the history
+
+-- A term was won, and this is its log.
+pub record Led (h : History) (term : ℕ) (log : List Entry) : Type 0 where
+  pub won : Won (h .leaders) term
+  pub same : h .leaders .log term ≡ log
+
+module _ (mask : ℕ) {h : History} {p : Park} (r : Reached mask p) (c : Carried mask h p) where
+  -- What a box hands out is covered, by a term that it has reached,
+  pub box-covered : (i : ℕ) → Covered mask h (p .box i .term) (handed-out (p .box i))
+  unfolding handed-out
+  box-covered i = rw (reached-proper mask p r i .ours) at (c .kept i .hands .covered)
+
+  -- and a box that leads has won its term, of which its log is the log.
+  pub box-leads : (i term : ℕ) → Leads (p .box i) term → Led h term (p .box i .log)
+  box-leads i term l =
+      let x = c .kept i .leads (l .role) in
+      rw (← l .in-term) (record { won = record { box = p .box i .me; start = x .start; has = x .won }; same = x .log })
+
+-- ---- two moments of a run
+
+-- Of two logs one is a beginning of the other.
+abbrev pub OneBegins : List Entry → List Entry → Type 0
+OneBegins a b = Begins a b ⊎ Begins b a
+
+module _ (mask : ℕ) (p q : Park) (r : Reached mask p) (u : Run mask p q) where
+  -- the history of the first, and the later one of the second
+  now : Onward mask fresh-park p
+  now = reached-carried mask p r
+
+  then-on : Onward mask (now .history) q
+  then-on = run-carried mask r (now .carried) u
+
+  -- what a box handed out at the first is covered at the second
+  still-covered : mask < 128 → (i : ℕ) → Covered mask (then-on .history) (p .box i .term) (handed-out (p .box i))
+  still-covered small i = covered-later small (now .carried .facts) (then-on .later) (box-covered mask r (now .carried) i)
+
+  -- **What any two boxes hand out is of one book.**
+  pub handed-agree : (i j : ℕ) → OneBegins (handed-out (p .box i)) (handed-out (q .box j))
+  unfolding start fresh handed-out
+  handed-agree i j = go (decLt mask 128)
+    where
+      go : Dec (mask < 128) → OneBegins (handed-out (p .box i)) (handed-out (q .box j))
+      go (yes small) =
+          one-book small (then-on .carried .facts) (still-covered small i) (box-covered mask (run-both r u) (then-on .carried) j)
+      go (no n) = rw (no-member mask n r) (inl (nothing-begins _))
+
+  -- **A leader holds what any box has handed out before, in a term up to its own.**
+  pub later-leader-holds : (i j term : ℕ) → p .box i .term ≤ term → Leads (q .box j) term → Begins (handed-out (p .box i)) (q .box j .log)
+  later-leader-holds i j term l b =
+      let small = leads-small mask q (run-both r u) j term b in
+      let led = box-leads mask (run-both r u) (then-on .carried) j term b in
+      rw (led .same) at (sender-holds small (then-on .carried .facts) (still-covered small i) term (led .won) l)
+
+  -- **A leader held already what any box hands out later, in a term below its own.**
+  pub earlier-leader-holds : (i j term : ℕ) → Leads (p .box i) term → q .box j .term < term → Begins (handed-out (q .box j)) (p .box i .log)
+  earlier-leader-holds i j term b l =
+      let led = box-leads mask r (now .carried) i term b in
+      rw (led .same) at (go (led .won) (box-covered mask (run-both r u) (then-on .carried) j))
+    where
+      small : mask < 128
+      small = leads-small mask p r i term b
+
+      go : Won (now .history .leaders) term → Covered mask (then-on .history) (q .box j .term) (handed-out (q .box j))
+          → Begins (handed-out (q .box j)) (now .history .leaders .log term)
+      go w (nothing e) = rw e (nothing-begins _)
+      go w (written m a x) =
+          let has = then-on .later .leaders .won term (w .box) (w .start) (w .has) in
+          begins-trans x (begins-trans (leader-complete small (then-on .carried .facts) m term (w .box) (w .start) (omega arith) has)
+          (now .carried .facts .leading term (w .box) (w .start) (w .has) .begins))

@@ -1,0 +1,83 @@
+-- Demand 3's run: a park of boxes, over the steps of demand 2 and the restarts of the journal. Assumes nothing.
+use Prim.Native.Nat.{ℕ, _<_}
+use mathlib.Core.Path.{_≡_}
+use mathlib.Core.Bool.{true, cond}
+use mathlib.Core.List.{List, [], _∷_, _++_, List·Memᴰ}
+use lib.Dec.{eqb}
+use Rattle.frames.specs.Message.{Message, text}
+use Rattle.raft.specs.Record.{State, leader, fresh, is-membership}
+use Rattle.raft.specs.Step.{Outcome, done, timeout, order, prompt}
+use Rattle.raft.specs.Receive.{receive}
+use Rattle.journal.specs.Opening.{restarted}
+
+-- A park: the record of each box, by its number, and the bytes of every frame that was ever sent.
+pub record Park : Type 0 where
+  pub box : ℕ → State
+  pub sent : List (List ℕ)
+
+-- "Take any run of fresh boxes with the same fixed membership and different numbers." Nothing was sent. (A number that is no member's takes
+-- no step, and a box that is started late is fresh until its first event.)
+unfoldable pub start : ℕ → Park
+start mask = record { box = λ i. fresh i mask; sent = [] }
+
+-- ---- what may happen to a box
+
+-- A timeout, an order of 8 bytes, a prompt, or a frame that was sent in the run. "Messages sent in the run may be lost, repeated, delayed or
+-- reordered, not altered": any frame that was ever sent may come to any box at any time, or never; bytes that nobody sent do not come.
+pub data Event (sent : List (List ℕ)) : Type 0 where
+  times-out : Event sent
+  takes-order : (o : ℕ) → o < 18446744073709551616 → Event sent
+  is-prompted : Event sent
+  receives : (bytes : List ℕ) → List·Memᴰ bytes sent → Event sent
+
+-- What it comes to: demand 2's own steps.
+unfoldable pub outcome : {sent : List (List ℕ)} → Event sent → State → Outcome
+outcome times-out s = timeout s
+outcome (takes-order o l) s = order o s
+outcome is-prompted s = prompt s
+outcome (receives bytes m) s = receive bytes s
+
+-- ---- what becomes of the park
+
+-- What each box has, box i's replaced.
+unfoldable pub put : {A : Type 0} → (ℕ → A) → ℕ → A → ℕ → A
+put box i t j = cond (eqb j i) t (box j)
+
+-- The bytes of messages, one frame each.
+unfoldable pub frames : List Message → List (List ℕ)
+frames [] = []
+frames (m ∷ ms) = text m ∷ frames ms
+
+-- Box i has come to a record, and its messages have left.
+unfoldable pub after : Park → ℕ → State → List Message → Park
+after p i t messages = record { box = put (p .box) i t; sent = frames messages ++ p .sent }
+
+-- One member's step, or its restart. A refusal changes nothing, so it is no move. "Power may fail at any byte of a journal line; a step counts,
+-- and its messages leave, only once its line, if any, is whole. Whole lines stay, and a box comes back only by its journal": a step whose line
+-- is not whole has not happened, so it is no move either, and what a journal opens with is `restarted`. (`Disks` tells the same run with the bytes
+-- on the disks, and `DisksLaws` shows that it is one of these.)
+pub data Move (mask : ℕ) (p : Park) : Park → Type 0 where
+  steps : (i : ℕ) → is-membership i mask ≡ true → (e : Event (p .sent)) (t : State) (messages : List Message)
+      → outcome e (p .box i) ≡ done t messages → Move mask p (after p i t messages)
+  restarts : (i : ℕ) → is-membership i mask ≡ true → Move mask p (after p i (restarted (p .box i)) [])
+
+-- From one park to a later one of the same run.
+pub data Run (mask : ℕ) (p : Park) : Park → Type 0 where
+  stays : Run mask p p
+  moves : {q r : Park} → Run mask p q → Move mask q r → Run mask p r
+
+-- One run behind the other.
+unfoldable pub run-both : {mask : ℕ} {p q r : Park} → Run mask p q → Run mask q r → Run mask p r
+run-both u stays = u
+run-both u (moves v m) = moves (run-both u v) m
+
+-- A park that stands at some moment of a run.
+abbrev pub Reached : ℕ → Park → Type 0
+Reached mask p = Run mask (start mask) p
+
+-- ---- what demand 3 speaks of
+
+-- A box with this record leads in a term.
+pub record Leads (s : State) (term : ℕ) : Type 0 where
+  pub role : s .role ≡ leader
+  pub in-term : s .term ≡ term
