@@ -4,8 +4,10 @@
 //! `frame_cases output` prints what a program that reads them has to answer:
 //! `n1` for no frame; else the fields on a line, then the frame as written.
 
-use std::io::Write;
 use std::process::ExitCode;
+
+#[path = "files.rs"]
+mod files;
 
 #[allow(dead_code)] // the flat form is for the comparison and the benchmark
 #[path = "twin/frames.rs"]
@@ -513,19 +515,5 @@ fn main() -> ExitCode {
     }
     input.extend_from_slice(TAIL);
 
-    let wanted = match std::env::args().nth(1).as_deref() {
-        Some("input") => input,
-        Some("output") => output,
-        _ => {
-            eprintln!("usage: frame_cases input|output");
-            return ExitCode::from(2);
-        }
-    };
-    match std::io::stdout().write_all(&wanted) {
-        Ok(()) => ExitCode::SUCCESS,
-        Err(error) => {
-            eprintln!("{error}");
-            ExitCode::FAILURE
-        }
-    }
+    files::print("frame_cases", &input, &output)
 }

@@ -5,8 +5,10 @@
 //! `program_journal input` prints the box asked for and its journal.
 //! `program_journal output` prints what the program has to say to it.
 
-use std::io::Write;
 use std::process::ExitCode;
+
+#[path = "files.rs"]
+mod files;
 
 #[allow(dead_code)] // the rest is for the comparisons
 #[path = "twin/node.rs"]
@@ -137,19 +139,5 @@ fn main() -> ExitCode {
         return ExitCode::FAILURE;
     }
 
-    let wanted = match std::env::args().nth(1).as_deref() {
-        Some("input") => input,
-        Some("output") => output,
-        _ => {
-            eprintln!("usage: program_journal input|output");
-            return ExitCode::from(2);
-        }
-    };
-    match std::io::stdout().write_all(wanted.as_bytes()) {
-        Ok(()) => ExitCode::SUCCESS,
-        Err(error) => {
-            eprintln!("{error}");
-            ExitCode::FAILURE
-        }
-    }
+    files::print("program_journal", input.as_bytes(), output.as_bytes())
 }

@@ -4,8 +4,10 @@
 //! `program_session input` prints the session.
 //! `program_session output` prints what the program has to say to it.
 
-use std::io::Write;
 use std::process::ExitCode;
+
+#[path = "files.rs"]
+mod files;
 
 #[allow(dead_code)] // the rest is for the comparisons
 #[path = "twin/node.rs"]
@@ -448,19 +450,5 @@ fn main() -> ExitCode {
         return ExitCode::FAILURE;
     }
 
-    let wanted = match std::env::args().nth(1).as_deref() {
-        Some("input") => input,
-        Some("output") => output,
-        _ => {
-            eprintln!("usage: program_session input|output");
-            return ExitCode::from(2);
-        }
-    };
-    match std::io::stdout().write_all(&wanted) {
-        Ok(()) => ExitCode::SUCCESS,
-        Err(error) => {
-            eprintln!("{error}");
-            ExitCode::FAILURE
-        }
-    }
+    files::print("program_session", &input, &output)
 }

@@ -63,6 +63,7 @@ fn lines_on(n: Node, bytes: &[u8], terms: &mut [u32], orders: &mut [u64], room: 
     ensures { λ r. ⌜ r .bytes ≤ length (now (room .entry)) ⌝ }
 {
     let known = node::is_good(n, &terms[..]);
+    // As in `answer`: room for six appends of four entries.
     let mut messages = [0u8; 786];
     answer_each(n, known, bytes, terms, orders, room, &mut messages)
 }

@@ -130,6 +130,7 @@ fn answer_on(
         };
     }
     let known = node::is_good(n, &terms[..]);
+    // Room for six appends of four entries; more of it changes nothing that anyone sees.
     let mut messages = [0u8; 786];
     answer_known(n, known, line, terms, orders, room, &mut messages)
 }
