@@ -1,20 +1,20 @@
 -- The first line: a head starts its box, any other is answered 12. Assumes nothing.
-use Prim.Native.Nat.{ℕ, _+_, _≤_, _<_}
+use Prim.Native.Nat.{ℕ, _≤_, _<_}
 use native.Mathlib.Omega.{arith}
-use mathlib.Core.Path.{_≡_, refl, sym, ap, _∙_}
+use mathlib.Core.Path.{_≡_, refl, ap, _∙_}
 use mathlib.Core.Bool.{Bool, true, false, cond, _&&_}
-use mathlib.Core.List.{List, []}
+use mathlib.Core.List.{List}
 use lib.Dec.{eqb, leb}
 use lib.ListN.{length}
 use borrow.Author.Tests.{eqb-true, eq-eqb, leb-true, le-leb, lt-leb}
 use Rattle.digits.specs.Digits.{run}
 use Rattle.digits.specs.Room.{over}
 use Rattle.digits.specs.Tests.{and-left, and-right}
-use Rattle.frames.specs.Reading.{text-size, is-line, version, kind}
+use Rattle.frames.specs.Reading.{is-line, version, kind}
 use Rattle.frames.specs.ReadingLaws.{line-run}
 use Rattle.raft.specs.Record.{is-membership, fresh}
 use Rattle.raft.specs.Journal.{head}
-use Rattle.journal.specs.Lines.{box-in, mask-in, head-size, head-shaped}
+use Rattle.journal.specs.Lines.{box-in, mask-in, head-shaped}
 use Rattle.journal.specs.Opening.{is-head}
 use Rattle.node.specs.declared.Node.{Node}
 use Rattle.node.specs.declared.Started.{Started}

@@ -2,13 +2,11 @@
 use Prim.Native.Nat.{ℕ, _+_, _-_, _≤_, _<_}
 use native.Mathlib.Omega.{arith}
 use mathlib.Core.Path.{_≡_, refl, sym, ap, _∙_}
-use mathlib.Core.Bool.{Bool, true, false, cond, _||_, true≢false}
+use mathlib.Core.Bool.{Bool, true, false, _||_, true≢false}
 use mathlib.Core.List.{List, [], _∷_, _++_, append-nil}
 use lib.Dec.{eqb, ltb, leb}
 use lib.ListN.{length, take, drop, length-take, length-drop, length-append, drop-of-length-le}
 use borrow.Author.Tests.{eqb-true, eqb-false, ltb-true, ltb-false, leb-true, le-leb, lt-leb}
-use Rattle.digits.specs.Room.{over}
-use Rattle.frames.specs.Message.{Message}
 use Rattle.raft.specs.Record.{State}
 use Rattle.raft.specs.Sends.{texts}
 use Rattle.raft.specs.Journal.{journaled}
@@ -20,8 +18,8 @@ use Rattle.opening.specs.Calls.{first-line}
 use Rattle.opening.specs.CodeLaws.{first-most}
 use Rattle.opening.specs.ReplayCode.{lines-end, lines-next}
 use Rattle.console.specs.declared.Answered.{Answered}
-use Rattle.console.specs.Session.{outcome-of, refusal-line, printed}
-use Rattle.console.specs.Calls.{longest, Saying, said, saying, Telling, behind, told, tell, telling}
+use Rattle.console.specs.Session.{outcome-of, printed}
+use Rattle.console.specs.Calls.{longest, Saying, said, saying, Telling, told, tell}
 use Rattle.console.specs.TextLaws.{rest-whole, refusal-most}
 use Rattle.console.specs.SayingLaws.{outcome-short}
 

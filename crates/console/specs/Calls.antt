@@ -1,11 +1,11 @@
 -- The calls: what an answer to a line leaves in everything lent. Assumes nothing.
 use Prim.Native.Nat.{ℕ, _+_, _-_}
-use mathlib.Core.Bool.{Bool, true, false, cond}
+use mathlib.Core.Bool.{true, false, cond}
 use mathlib.Core.List.{List, [], _∷_, _++_}
 use lib.Dec.{leb}
 use lib.ListN.{length, take, drop}
 use Rattle.digits.specs.Room.{over}
-use Rattle.raft.specs.Record.{State, fresh}
+use Rattle.raft.specs.Record.{fresh}
 use Rattle.raft.specs.Lent.{terms-of, orders-of}
 use Rattle.raft.specs.Journal.{head}
 use Rattle.raft.specs.Step.{Outcome, done, refuse}

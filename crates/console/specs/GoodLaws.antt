@@ -5,7 +5,6 @@ use native.Mathlib.Omega.{arith}
 use mathlib.Core.Path.{_≡_, refl, sym, ap, _∙_}
 use mathlib.Core.Bool.{Bool, true, false, cond}
 use mathlib.Core.List.{List}
-use lib.Dec.{leb}
 use lib.ListN.{length}
 use borrow.Author.Tests.{le-leb}
 use Rattle.digits.specs.Room.{over}
@@ -19,7 +18,7 @@ use Rattle.raft.specs.Step.{Outcome, done, refuse}
 use Rattle.raft.specs.StepLaws.{no-done, timeout-good, order-good, prompt-good}
 use Rattle.raft.specs.ReceiveLaws.{receive-good}
 use Rattle.node.specs.declared.Node.{Node}
-use Rattle.node.specs.Calls.{state-of, node-of}
+use Rattle.node.specs.Calls.{state-of}
 use Rattle.node.specs.RoleLaws.{lent-same}
 use Rattle.console.specs.declared.Answered.{Answered}
 use Rattle.console.specs.Session.{event-of, outcome-of}
@@ -57,7 +56,7 @@ module _ (line : List ℕ) (b : Node) (terms orders room : List ℕ) (p : length
   as-said o k = e ∙ rw (le-leb longest (length room) wide, k)
 
   -- the struct and the lent log are the next record
-  next-lent : (t : State) (ms : List Message) → outcome-of line s ≡ done t ms → state-of (one .node) terms' orders' ≡ t
+  pub next-lent : (t : State) (ms : List Message) → outcome-of line s ≡ done t ms → state-of (one .node) terms' orders' ≡ t
   unfolding said
   next-lent t ms k =
       let all = as-said (done t ms) k in

@@ -9,3 +9,5 @@ pub mod BeginLaws
 pub mod BlockLaws
 pub mod LookingLaws
 pub mod GoodLaws
+pub mod SessionLaws
+pub mod RunLaws

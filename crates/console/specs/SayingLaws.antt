@@ -1,10 +1,9 @@
 -- From a step's call to what is printed: the journal line, the messages behind it, or the line of the refusal. Assumes nothing.
-use Prim.Native.Nat.{ℕ, _+_, _-_, _≤_, _<_}
+use Prim.Native.Nat.{ℕ, _+_, _≤_, _<_}
 use native.Mathlib.Omega.{arith}
-use mathlib.Core.Path.{_≡_, refl, sym, ap, _∙_}
-use mathlib.Core.Bool.{Bool, true, false, cond, true≢false}
-use mathlib.Core.List.{List, [], _∷_, _++_}
-use lib.Dec.{leb}
+use mathlib.Core.Path.{_≡_, refl, ap, _∙_}
+use mathlib.Core.Bool.{Bool, true, false, cond}
+use mathlib.Core.List.{List}
 use lib.ListN.{length, take, length-append}
 use borrow.Author.Tests.{le-leb, lt-leb}
 use Rattle.digits.specs.Room.{over}
@@ -19,10 +18,8 @@ use Rattle.raft.specs.StepLaws.{no-done}
 use Rattle.raft.specs.RefusalLaws.{Numbered, numbers, by-test, at-least-one, timeout-numbered, order-numbered, prompt-numbered, receive-numbered}
 use Rattle.journal.specs.LongestLaws.{Longest, timeout-longest, order-longest, prompt-longest, receive-longest}
 use Rattle.node.specs.declared.Node.{Node}
-use Rattle.node.specs.declared.Step.{Step}
 use Rattle.node.specs.SizeLaws.{over-next}
 use Rattle.node.specs.Calls.{state-of, node-of, Called, untouched, fit, written, run, call}
-use Rattle.console.specs.declared.Answered.{Answered}
 use Rattle.console.specs.Session.{letter-t, letter-p, is-letter, is-order, order-in, event-of, outcome-of, refusal-line, printed}
 use Rattle.console.specs.Calls.{longest, Saying, said, saying}
 use Rattle.console.specs.TextLaws.{taken-back}

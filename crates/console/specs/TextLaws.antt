@@ -1,6 +1,5 @@
 -- What the code's proofs use of texts: one put at a place, a number's places, the line of a refusal. Assumes nothing.
 use Prim.Native.Nat.{ℕ, zero, suc, _+_, _-_, _/_, _%_, _≤_, _<_}
-use native.Mathlib.Nat.{add-assoc}
 use native.Mathlib.Numerals.{add-one}
 use native.Mathlib.Omega.{arith}
 use mathlib.Core.Path.{_≡_, refl, sym, ap, _∙_}
@@ -11,7 +10,7 @@ use lib.ListN.{length, getD, set, take, drop, length-append, length-drop}
 use lib.Seq.{take-at, take-length, take-suc, length-take-le}
 use borrow.Author.Tests.{lt-ltb, le-ltb}
 use Rattle.digits.specs.Room.{over}
-use Rattle.digits.specs.RoomLaws.{length-over, over-nothing, over-over}
+use Rattle.digits.specs.RoomLaws.{length-over, over-over}
 use Rattle.frames.specs.Message.{line-feed}
 use Rattle.frames.specs.WritingLaws.{stored-one}
 use Rattle.console.specs.Session.{letter-n, decimal-in, decimal, refusal-line}

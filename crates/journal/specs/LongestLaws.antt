@@ -57,7 +57,7 @@ line-most s t m =
 -- ---- the messages
 
 -- Only an append has entries, and the rules of frames give it at most four.
-text-most : (m : Message) → obeys m ≡ true → length (text m) ≤ longest-message
+pub text-most : (m : Message) → obeys m ≡ true → length (text m) ≤ longest-message
 unfolding size
 text-most (vote-request from to term index prior) o = omega (arith, length-text (vote-request from to term index prior))
 text-most (vote-answer from to term reply) o = omega (arith, length-text (vote-answer from to term reply))

@@ -3,8 +3,7 @@ use Prim.Native.Nat.{ℕ, _+_, _-_, _≤_}
 use native.Mathlib.Omega.{arith}
 use mathlib.Core.Path.{_≡_, refl, sym, ap, _∙_}
 use mathlib.Core.Bool.{Bool, true, false, cond}
-use mathlib.Core.List.{List, [], _∷_}
-use lib.Dec.{eqb}
+use mathlib.Core.List.{List}
 use lib.ListN.{length, take, drop, length-take}
 use borrow.Author.Tests.{eq-eqb, ne-eqb}
 use Rattle.frames.specs.Limits.{log-limit}
@@ -14,7 +13,7 @@ use Rattle.journal.specs.Opening.{Replayed, next, breaks, replayed, is-head}
 use Rattle.node.specs.declared.Node.{Node}
 use Rattle.node.specs.Calls.{state-of, node-of}
 use Rattle.opening.specs.declared.Replayed as declared
-use Rattle.opening.specs.Calls.{first-line, none, Replaying, replaying, replaying-by, heading, Blocks, counted, stopped, replay-each}
+use Rattle.opening.specs.Calls.{first-line, Replaying, replaying, replaying-by, heading, Blocks, stopped, replay-each}
 use Rattle.opening.specs.CodeLaws.{first-most}
 use Rattle.opening.specs.ReplayCode.{replayed-room, lines-end, lines-next}
 use Rattle.opening.specs.OpenCode.{head-mask}

@@ -1,11 +1,11 @@
 -- Moving what is held to the block's start: what is read next was not yet written over. Assumes nothing.
-use Prim.Native.Nat.{ℕ, _+_, _-_, _≤_, _<_}
+use Prim.Native.Nat.{ℕ, _+_, _<_}
 use native.Mathlib.Nat.{zero-add}
 use native.Mathlib.Omega.{arith}
-use mathlib.Core.Path.{_≡_, refl, sym, ap, _∙_}
-use mathlib.Core.List.{List, _++_}
+use mathlib.Core.Path.{_≡_, ap, _∙_}
+use mathlib.Core.List.{List}
 use lib.ListN.{length, getD, set, take, drop, length-drop}
-use lib.Seq.{length-take-le, getD-append-add, getD-drop, take-take}
+use lib.Seq.{length-take-le, getD-append-add, getD-drop}
 use Rattle.digits.specs.Room.{over}
 use Rattle.opening.specs.CodeLaws.{hand-next}
 

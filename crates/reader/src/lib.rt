@@ -52,7 +52,7 @@ pub struct Line {
     pub held: usize,
 }
 
-// The line at the block's start, read on until it is whole.
+// The line at the block's start, read on until it is whole. (Which bytes a read brings no contract can say: that it reads on, and when it ends, is tested.)
 pub fn whole_line(block: &mut [u8], filled: usize) -> Line
     requires { ⌜ filled ≤ length (now block) ⌝ }
     ensures { λ r. ⌜ r .end ≤ r .held ⌝ }

@@ -1,5 +1,4 @@
 -- By the two tests.
-use borrow.Author.Needs.{needs}
 use native.Mathlib.Omega.{arith}
 use borrow.Author.Tests.{lt-ltb, le-ltb}
 use Rattle.reader.proofs.shorten.Statement.{statement}

@@ -3,7 +3,7 @@ use borrow.Author.Needs.{needs}
 use native.Mathlib.Omega.{arith}
 use Prim.Native.Nat.{_≤_}
 use mathlib.Core.Path.{_≡_}
-use lib.ListN.{length, take, length-take}
+use lib.ListN.{length, length-take}
 use Rattle.frames.specs.Limits.{log-limit}
 use Rattle.replay.proofs.later_lines.Statement.{statement}
 use Rattle.replay.proofs.later_lines.Tie as tie

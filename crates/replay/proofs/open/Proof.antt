@@ -1,12 +1,10 @@
 -- What is held never passes the block, nor the log its limit.
 use borrow.Author.Needs.{needs}
-use lib.ListN.{length, take, length-take}
+use lib.ListN.{take, length-take}
 use native.Mathlib.Omega.{arith}
-use mathlib.Core.Path.{_≡_, sym, ap}
-use Rattle.frames.specs.Limits.{log-limit}
+use mathlib.Core.Path.{ap}
 use Rattle.opening.specs.declared.Replayed.{Replayed}
 use Rattle.opening.specs.BlockCode.{heading-fits}
-use Prim.Native.Nat.{_≤_}
 use Rattle.replay.proofs.open.Statement.{statement}
 use Rattle.replay.proofs.open.Tie as tie
 

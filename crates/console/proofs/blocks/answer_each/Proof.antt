@@ -1,9 +1,9 @@
 -- What was answered and what is left make the whole (`block-next`); each turn takes a line.
 use borrow.Author.Needs.{needs}
 use native.Mathlib.Omega.{arith}
-use mathlib.Core.Path.{_≡_, refl, sym, ap, _∙_}
+use mathlib.Core.Path.{_≡_, refl, sym, _∙_}
 use Prim.Native.Nat.{_+_, _-_, _≤_}
-use lib.ListN.{length, take, drop, length-take, length-drop}
+use lib.ListN.{length, drop, length-take, length-drop}
 use Rattle.frames.specs.Limits.{log-limit}
 use Rattle.raft.specs.Record.{good}
 use Rattle.node.specs.Calls.{state-of}

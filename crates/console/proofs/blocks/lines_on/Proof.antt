@@ -1,6 +1,5 @@
 -- The record is looked at once.
 use borrow.Author.Needs.{needs}
-use mathlib.Core.Path.{_≡_}
 use Rattle.console.proofs.blocks.lines_on.Statement.{statement}
 use Rattle.console.proofs.blocks.lines_on.Tie as tie
 

@@ -1,8 +1,8 @@
 -- The journal line at the start, the messages behind it (`said-done`); or the line of the refusal (`said-refused`).
 use borrow.Author.Needs.{needs}
 use native.Mathlib.Omega.{arith}
-use mathlib.Core.Path.{_≡_, refl, sym, ap, _∙_}
-use lib.ListN.{length, length-take}
+use mathlib.Core.Path.{_∙_}
+use lib.ListN.{length-take}
 use Rattle.console.specs.SayingLaws.{step-sizes, said-done, said-refused}
 use Rattle.console.specs.GoodLaws.{saying-good}
 use Rattle.console.proofs.lines.answer_known.Statement.{statement}

@@ -1,7 +1,6 @@
 -- Too little room, or the answer.
 use borrow.Author.Needs.{needs}
 use native.Mathlib.Omega.{arith}
-use mathlib.Core.Path.{_≡_, refl, sym, ap, _∙_}
 use Rattle.console.specs.SayingLaws.{said-short}
 use Rattle.console.proofs.lines.answer_on.Statement.{statement}
 use Rattle.console.proofs.lines.answer_on.Tie as tie

@@ -1,9 +1,7 @@
 -- A head starts its box; any other line is answered 12.
 use borrow.Author.Needs.{needs}
-use mathlib.Core.Path.{_≡_, refl, sym, ap, _∙_}
 use native.Mathlib.Omega.{arith}
 use Rattle.console.specs.BeginLaws.{begin-short, start-none, start-bad, start-done, begin-within}
-use Rattle.console.specs.Calls.{Beginning, beginning}
 use Rattle.console.proofs.lines.begin.Statement.{statement}
 use Rattle.console.proofs.lines.begin.Tie as tie
 

@@ -1,6 +1,6 @@
 -- The tests are the definition's own.
 use borrow.Author.Needs.{needs}
-use mathlib.Core.Path.{_≡_, refl, sym, _∙_}
+use mathlib.Core.Path.{sym}
 use Rattle.console.specs.LineLaws.{letter-long, letter-by}
 use Rattle.console.proofs.lines.is_letter.Statement.{statement}
 use Rattle.console.proofs.lines.is_letter.Tie as tie

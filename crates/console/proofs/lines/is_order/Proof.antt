@@ -1,8 +1,7 @@
 -- The tests are the definition's own.
 use borrow.Author.Needs.{needs}
 use Rattle.console.specs.TextLaws.{rest-whole}
-use mathlib.Core.Path.{_≡_, refl, sym, _∙_}
-use native.Mathlib.Omega.{arith}
+use mathlib.Core.Path.{sym, _∙_}
 use Rattle.console.specs.LineLaws.{order-long, order-other, order-by}
 use Rattle.console.proofs.lines.is_order.Statement.{statement}
 use Rattle.console.proofs.lines.is_order.Tie as tie

@@ -2,7 +2,6 @@
 use borrow.Author.Needs.{needs}
 use Rattle.console.specs.TextLaws.{rest-whole}
 use Rattle.console.specs.Session.{order-in}
-use mathlib.Core.Path.{_≡_, refl, sym, _∙_}
 use native.Mathlib.Omega.{arith}
 use Rattle.console.specs.LineLaws.{order-facts}
 use Rattle.console.proofs.lines.order_in.Statement.{statement}

@@ -1,6 +1,6 @@
 -- By the form of the line (`starts`).
 use borrow.Author.Needs.{needs}
-use mathlib.Core.Path.{_≡_, refl, sym, ap, _∙_}
+use mathlib.Core.Path.{sym, _∙_}
 use native.Mathlib.Omega.{arith}
 use borrow.Author.Tests.{not-true, not-false}
 use Rattle.console.specs.BeginLaws.{head-digits, starts-none, starts-head}

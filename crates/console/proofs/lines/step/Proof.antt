@@ -1,6 +1,6 @@
 -- 12 at a record that is not good; otherwise each case is the event that the line asks for.
 use borrow.Author.Needs.{needs}
-use mathlib.Core.Path.{_≡_, refl, sym, ap, _∙_}
+use mathlib.Core.Path.{sym, _∙_}
 use borrow.Author.Tests.{not-true, not-false}
 use Rattle.raft.specs.Step.{timeout, order, prompt}
 use Rattle.raft.specs.Receive.{receive}

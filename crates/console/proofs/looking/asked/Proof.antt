@@ -1,6 +1,6 @@
 -- The digit's number.
 use borrow.Author.Needs.{needs}
-use mathlib.Core.Path.{_≡_, refl, sym, ap, _∙_}
+use mathlib.Core.Path.{sym, _∙_}
 use native.Mathlib.Omega.{arith}
 use Rattle.console.specs.LookingLaws.{asks-facts, asked-digit, asked-none}
 use Rattle.console.proofs.looking.asked.Statement.{statement}

@@ -1,6 +1,6 @@
 -- The tests are the definition's own.
 use borrow.Author.Needs.{needs}
-use mathlib.Core.Path.{_≡_, refl, sym, ap, _∙_}
+use mathlib.Core.Path.{sym}
 use Rattle.console.specs.LookingLaws.{asks-long, asks-by}
 use Rattle.console.proofs.looking.is_asking.Statement.{statement}
 use Rattle.console.proofs.looking.is_asking.Tie as tie

@@ -1,6 +1,5 @@
 -- Four numbers, one behind the other (`first-put`).
 use borrow.Author.Needs.{needs}
-use mathlib.Core.Path.{_≡_, refl, sym, ap, _∙_}
 use native.Mathlib.Omega.{arith}
 use Rattle.console.specs.LookingLaws.{first-put}
 use Rattle.console.proofs.looking.put_first.Statement.{statement}

@@ -1,6 +1,5 @@
 -- The digits, and the character behind them.
 use borrow.Author.Needs.{needs}
-use mathlib.Core.Path.{_≡_, refl, sym, ap, _∙_}
 use native.Mathlib.Omega.{arith}
 use Rattle.console.specs.LookingLaws.{numbered-long, numbered-put}
 use Rattle.console.proofs.looking.put_number.Statement.{statement}

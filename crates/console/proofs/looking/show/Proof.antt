@@ -1,6 +1,5 @@
 -- The first line, and the log behind it (`shown-put`).
 use borrow.Author.Needs.{needs}
-use mathlib.Core.Path.{_≡_, refl, sym, ap, _∙_}
 use native.Mathlib.Omega.{arith}
 use Rattle.console.specs.LookingLaws.{shown-put}
 use Rattle.console.proofs.looking.show.Statement.{statement}

@@ -1,12 +1,11 @@
 -- The places of the tenth, and the last one behind them (`decimal-more`); measure: the places left.
 use borrow.Author.Needs.{needs}
 use native.Mathlib.Omega.{arith}
-use mathlib.Core.Path.{_≡_, refl, sym, _∙_}
 use lib.ListN.{length-append}
 use Rattle.digits.specs.RoomLaws.{over-nothing}
 use Rattle.frames.specs.WritingLaws.{stored-one}
-use Rattle.console.specs.TextLaws.{put-behind, decimal-long, decimal-none, decimal-one, decimal-more}
-use Prim.Native.Nat.{ℕ, _<_}
+use Rattle.console.specs.TextLaws.{put-behind, decimal-none, decimal-one, decimal-more}
+use Prim.Native.Nat.{ℕ}
 use borrow.Fn.Kinds.{In}
 use borrow.Fn.PlainCycle.{Measures, is, falls, and}
 use Rattle.console.proofs.text.put_decimal.Reads as put-decimal

@@ -1,7 +1,6 @@
 -- The letter, the number behind it, the line feed behind both (`refusal-put`).
 use borrow.Author.Needs.{needs}
 use native.Mathlib.Omega.{arith}
-use mathlib.Core.Path.{_≡_, refl, sym, _∙_}
 use lib.ListN.{length-set}
 use Rattle.console.specs.TextLaws.{refusal-long, refusal-put}
 use Rattle.console.proofs.text.put_refusal.Statement.{statement}

@@ -1,6 +1,6 @@
 -- 12 where the record breaks a rule; otherwise the bytes decide.
 use borrow.Author.Needs.{needs}
-use mathlib.Core.Path.{_≡_, refl, sym, ap, _∙_}
+use mathlib.Core.Path.{sym, _∙_}
 use borrow.Author.Tests.{not-true, not-false}
 use Rattle.raft.specs.Receive.{receive}
 use Rattle.node.specs.CallLaws.{call-bad, call-good}

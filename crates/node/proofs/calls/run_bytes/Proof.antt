@@ -1,7 +1,6 @@
 -- 1 where the bytes are not one frame; otherwise the message decides.
 use borrow.Author.Needs.{needs}
-use mathlib.Core.Path.{_≡_, refl, sym, ap, _∙_}
-use Rattle.raft.specs.Receive.{receive}
+use mathlib.Core.Path.{ap, _∙_}
 use Rattle.node.specs.Calls.{state-of, run}
 use Rattle.node.specs.ReceiveCalls.{read-not, read-frame}
 use Rattle.node.proofs.calls.run_bytes.Statement.{statement}

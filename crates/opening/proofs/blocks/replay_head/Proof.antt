@@ -1,6 +1,5 @@
 -- A mask is 0 exactly where there is no head.
 use borrow.Author.Needs.{needs}
-use mathlib.Core.Path.{_≡_, refl, sym, ap, _∙_}
 use Rattle.opening.specs.BlockCode.{no-head, a-head}
 use Rattle.opening.proofs.blocks.replay_head.Statement.{statement}
 use Rattle.opening.proofs.blocks.replay_head.Tie as tie

@@ -1,7 +1,7 @@
 -- What was replayed and what is left make the whole (`each-next`); each turn takes a line.
 use borrow.Author.Needs.{needs}
 use native.Mathlib.Omega.{arith}
-use mathlib.Core.Path.{_≡_, refl, sym, ap, _∙_}
+use mathlib.Core.Path.{_≡_, refl, sym, _∙_}
 use Prim.Native.Nat.{_-_, _≤_}
 use lib.ListN.{length, drop, length-drop}
 use Rattle.frames.specs.Limits.{log-limit}
