@@ -9,6 +9,7 @@ use Rattle.raft.specs.Record.{fresh}
 use Rattle.raft.specs.Lent.{terms-of, orders-of}
 use Rattle.raft.specs.Journal.{head}
 use Rattle.raft.specs.Step.{Outcome, done, refuse}
+use Rattle.journal.specs.LongestLaws.{longest-line, longest-messages}
 use Rattle.journal.specs.Lines.{lines, box-in, mask-in, head-shaped}
 use Rattle.node.specs.declared.Node.{Node}
 use Rattle.node.specs.Calls.{state-of, node-of, begun}
@@ -18,9 +19,9 @@ use Rattle.console.specs.declared.Answered.{Answered}
 use Rattle.console.specs.declared.Taken.{Taken}
 use Rattle.console.specs.Session.{outcome-of, refusal-line, printed, is-start}
 
--- The longest that a line can make a box print: a journal line of 119 bytes and messages of 786. With less room no line is answered.
+-- The longest that a line can make a box print: a journal line of 119 bytes and messages of 786, 905 in all. With less room no line is answered.
 abbrev pub longest : ℕ
-longest = 905
+longest = longest-line + longest-messages
 
 -- ---- the first line
 

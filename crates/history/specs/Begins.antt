@@ -29,10 +29,11 @@ unfolding term-at
 begins-term {a} {b} p zero l = refl
 begins-term {a} {b} p (suc i) l = ap (λ e. e .term) (ap (λ z. getD z i no-entry) (sym (p .first)) ∙ getD-take (length a) b i no-entry l)
 
--- nothing begins every log, and only nothing begins nothing
+-- nothing begins every log,
 pub nothing-begins : (a : List Entry) → Begins [] a
 nothing-begins a = record { first = refl }
 
+-- and only nothing begins nothing
 pub begins-nothing : {a : List Entry} → Begins a [] → a ≡ []
 begins-nothing {a} p = sym (p .first) ∙ take-nil (length a)
 

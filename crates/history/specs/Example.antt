@@ -17,11 +17,12 @@ use Rattle.history.specs.Most.{Most}
 use Rattle.history.specs.History.{History, Won, Granted, Facts}
 use Rattle.history.specs.LeaderComplete.{Committed, first-of}
 use Rattle.history.specs.Book.{leader-holds}
-use Rattle.history.specs.Grow.{asks-now, grants-now, acks-now, put, raised, stood, gave, with-leaders, winner, longer, moved}
+use Rattle.history.specs.Put.{put}
+use Rattle.history.specs.Grow.{asks-now, grants-now, acks-now, raised, stood, gave, with-leaders, winner, longer, moved}
 use Rattle.history.specs.Steps.{fresh-park, fresh-facts, asks, asks-facts, gives, gives-facts, wins, wins-facts, adds, adds-facts, accepts, accepts-facts}
 
 -- To open this is to open every step.
-steps : Unit {0}
+unfoldable pub steps : Unit {0}
 unfolding fresh-park asks stood gives gave raised put wins with-leaders winner moved adds longer accepts joined stop passes agreed term-at lacks
 steps = tt
 
@@ -39,7 +40,7 @@ voted-1 = gives 2 1 1 asked-1
 abbrev won-1 : History
 won-1 = wins 1 voted-1
 
-abbrev added-1 : History
+abbrev pub added-1 : History
 added-1 = adds 1 first won-1
 
 abbrev taken-1 : History
@@ -55,10 +56,11 @@ voted-2 = gives 3 2 2 asked-2
 abbrev won-2 : History
 won-2 = wins 2 voted-2
 
--- Two of three are a majority: boxes 1 and 2, boxes 2 and 3.
+-- Two of three are a majority: a test that failed is none,
 never : {A : Type 0} → false ≡ true → A
 never e = let z : _≡_ {A = ℕ} 0 1 = cc in absurd (omega arith)
 
+-- boxes 1 and 2,
 boxes-1-2 : (P : ℕ → Type 0) → P 1 → P 2 → Most 7 P
 unfolding holds majority ones
 boxes-1-2 P a b =
@@ -68,7 +70,8 @@ boxes-1-2 P a b =
       each = λ j m. at-box (λ j. holds 3 j ≡ true → P j) (λ e. a) (λ e. b) never never never never never j (m .least) (m .most);
     }
 
-boxes-2-3 : (P : ℕ → Type 0) → P 2 → P 3 → Most 7 P
+-- and boxes 2 and 3
+pub boxes-2-3 : (P : ℕ → Type 0) → P 2 → P 3 → Most 7 P
 unfolding holds majority ones
 boxes-2-3 P a b =
     record {
@@ -79,6 +82,7 @@ boxes-2-3 P a b =
 
 -- ---- term 1
 
+-- Box 2 may give its vote,
 voted-1-facts : Facts 7 voted-1
 unfolding steps
 voted-1-facts =
@@ -97,15 +101,18 @@ granted-1 =
     (record { log = []; has = inl (inr (grants-now (λ w. w .has))) })
     (record { log = []; has = inr (grants-now (λ w. w .has)) })
 
+-- so box 1 wins,
 won-1-facts : Facts 7 won-1
 unfolding steps
 won-1-facts = wins-facts 1 voted-1-facts (λ w. w .has) (inr asks-now) granted-1
 
-added-1-facts : Facts 7 added-1
+-- adds its entry,
+pub added-1-facts : Facts 7 added-1
 unfolding steps
 added-1-facts =
     adds-facts 1 first won-1-facts (record { box = 1; start = []; has = inr asks-now }) refl refl
 
+-- and box 2 accepts it.
 taken-1-facts : Facts 7 taken-1
 unfolding steps
 taken-1-facts =
@@ -115,6 +122,7 @@ taken-1-facts =
 
 -- ---- term 2
 
+-- Box 3 may give its vote,
 voted-2-facts : Facts 7 voted-2
 unfolding steps
 voted-2-facts =
@@ -131,6 +139,7 @@ unwon-2 w = go (w .has)
     go (inl v) = v
     go (inr q) = omega (arith, q .term)
 
+-- so boxes 2 and 3 granted
 granted-2 : Most 7 (λ j. Granted (voted-2 .granted) j 2 2)
 unfolding steps
 granted-2 =
@@ -162,72 +171,7 @@ example-held =
     leader-holds (omega arith) example-facts example-committed 2
     (record { box = 2; start = first ∷ []; has = inr asks-now }) (omega arith)
 
+-- what its log is
 pub example-log : won-2 .leaders .log 2 ≡ first ∷ []
 unfolding steps
 example-log = refl
-
--- ---- what is acknowledged and not committed may be lost
-
--- Box 2 never hears of the entry: it asks in term 2 with an empty log, box 3 gives it its vote, it wins and adds another entry,
-abbrev second : Entry
-second = record { term = 2; order = 60 }
-
-abbrev asked-3 : History
-asked-3 = asks 2 added-1
-
-abbrev voted-3 : History
-voted-3 = gives 3 2 2 asked-3
-
-abbrev won-3 : History
-won-3 = wins 2 voted-3
-
-abbrev added-3 : History
-added-3 = adds 2 second won-3
-
--- and box 1 accepts that one.
-abbrev taken-3 : History
-taken-3 = accepts 1 2 0 (second ∷ []) added-3
-
-voted-3-facts : Facts 7 voted-3
-unfolding steps
-voted-3-facts =
-    let f = asks-facts 2 added-1-facts in
-    gives-facts 3 2 2 f (omega arith) (λ d v. absurd (omega (arith, f .voted-reached 3 2 d v)))
-    (record { log = []; has = inr asks-now; newer = refl })
-
-unwon-3 : Won (voted-3 .leaders) 2 → ⊥
-unfolding steps
-unwon-3 w = go (w .has)
-  where
-    go : {d : ℕ} {start : List Entry} → voted-3 .leaders .won 2 d start → ⊥
-    go (inl v) = v
-    go (inr q) = omega (arith, q .term)
-
-granted-3 : Most 7 (λ j. Granted (voted-3 .granted) j 2 2)
-unfolding steps
-granted-3 =
-    boxes-2-3 (λ j. Granted (voted-3 .granted) j 2 2)
-    (record { log = []; has = inl (inr (grants-now unwon-3)) })
-    (record { log = []; has = inr (grants-now unwon-3) })
-
-added-3-facts : Facts 7 added-3
-unfolding steps
-added-3-facts =
-    adds-facts 2 second (wins-facts 2 voted-3-facts unwon-3 (inr asks-now) granted-3)
-    (record { box = 2; start = []; has = inr asks-now }) refl refl
-
--- The facts hold, box 1 had acknowledged its entry of term 1, and no longer has it.
-pub lost-facts : Facts 7 taken-3
-unfolding steps
-lost-facts =
-    accepts-facts 1 2 {index = 0} {prior = 0} {es = second ∷ []} added-3-facts (omega arith)
-    (record { box = 2; start = []; has = inr asks-now })
-    (record { reach = omega arith; before = refl; piece = record { first = refl } }) refl
-
-pub lost-acked : taken-3 .acked 1 1 1
-unfolding steps
-lost-acked = inl (inl (inl (inr acks-now)))
-
-pub lost-log : taken-3 .log 1 ≡ second ∷ []
-unfolding steps
-lost-log = refl

@@ -3,42 +3,13 @@
 use Prim.Native.Nat.{ℕ, _≤_}
 use native.Mathlib.Omega.{arith}
 use mathlib.Core.Path.{_≡_, refl}
-use mathlib.Core.Bool.{Bool, true, false, cond}
 use mathlib.Core.List.{List, [], _∷_, _++_}
 use mathlib.Core.Logic.{_⊎_}
-use lib.Dec.{eqb}
 use lib.ListN.{take}
-use borrow.Author.Tests.{eqb-true, eqb-false, eq-eqb, ne-eqb}
 use Rattle.frames.specs.declared.Entry.{Entry}
 use Rattle.history.specs.Begins.{Begins, begins-long, begins-same, begins-trans}
+use Rattle.history.specs.Put.{put}
 use Rattle.history.specs.History.{Leaders, History, Won, Comes, Descends, Reaches, Keeps, kept, lost}
-
--- ---- one place changed
-
-unfoldable pub put : {A : Type 0} → (ℕ → A) → ℕ → A → ℕ → A
-put f i x j = cond (eqb j i) x (f j)
-
-pub put-same : {A : Type 0} (f : ℕ → A) (i : ℕ) (x : A) → put f i x i ≡ x
-unfolding put
-put-same f i x = rw (eq-eqb i i refl)
-
-pub put-other : {A : Type 0} (f : ℕ → A) (i : ℕ) (x : A) (j : ℕ) → (j ≡ i → ⊥) → put f i x j ≡ f j
-unfolding put
-put-other f i x j n = rw (ne-eqb j i n)
-
--- what holds of the new ones, and of each other as they were, holds of all
-pub put-both : {A B : Type 0} (P : ℕ → A → B → Type 0) (f : ℕ → A) (g : ℕ → B) (i : ℕ) (x : A) (y : B) → P i x y
-    → ((j : ℕ) → (j ≡ i → ⊥) → P j (f j) (g j)) → (j : ℕ) → P j (put f i x j) (put g i y j)
-unfolding put
-put-both P f g i x y p q j = go (eqb j i) refl
-  where
-    go : (b : Bool) → eqb j i ≡ b → P j (cond b x (f j)) (cond b y (g j))
-    go true e = rw (eqb-true j i e) p
-    go false e = q j (eqb-false j i e)
-
-pub put-all : {A : Type 0} (P : ℕ → A → Type 0) (f : ℕ → A) (i : ℕ) (x : A) → P i x → ((j : ℕ) → (j ≡ i → ⊥) → P j (f j))
-    → (j : ℕ) → P j (put f i x j)
-put-all P f i x p q j = put-both (λ k a b. P k a) f f i x x p q j
 
 -- ---- the steps
 
@@ -61,9 +32,11 @@ pub record Asks (c t : ℕ) (own : List Entry) (s d : ℕ) (log : List Entry) : 
   pub box : d ≡ c
   pub whole : log ≡ own
 
+-- as it does now
 pub asks-now : {c t : ℕ} {own : List Entry} → Asks c t own t c own
 asks-now = record { term = refl; box = refl; whole = refl }
 
+-- the history in which it has
 unfoldable pub stood : (c t : ℕ) → History → History
 stood c t h =
     record {
@@ -82,23 +55,27 @@ pub record Votes (i t c : ℕ) (j s d : ℕ) : Type 0 where
   pub term : s ≡ t
   pub chosen : d ≡ c
 
-pub record Grants (l : Leaders) (i t c : ℕ) (own : List Entry) (j s d : ℕ) (log : List Entry) : Type 0 where
+-- and its log was this
+pub record Granting (l : Leaders) (i t c : ℕ) (own : List Entry) (j s d : ℕ) (log : List Entry) : Type 0 where
   pub vote : Votes i t c j s d
   pub whole : log ≡ own
   pub unwon : Won l t → ⊥
 
+-- as it does now
 pub votes-now : {i t c : ℕ} → Votes i t c i t c
 votes-now = record { box = refl; term = refl; chosen = refl }
 
-pub grants-now : {l : Leaders} {i t c : ℕ} {own : List Entry} → (Won l t → ⊥) → Grants l i t c own i t c own
+-- where nobody has won
+pub grants-now : {l : Leaders} {i t c : ℕ} {own : List Entry} → (Won l t → ⊥) → Granting l i t c own i t c own
 grants-now free = record { vote = votes-now; whole = refl; unwon = free }
 
+-- the history in which it has
 unfoldable pub gave : (i t c : ℕ) → History → History
 gave i t c h =
     record {
       asked = h .asked;
       voted = λ j s d. h .voted j s d ⊎ Votes i t c j s d;
-      granted = λ j s d log. h .granted j s d log ⊎ Grants (h .leaders) i t c (h .log i) j s d log;
+      granted = λ j s d log. h .granted j s d log ⊎ Granting (h .leaders) i t c (h .log i) j s d log;
       leaders = h .leaders;
       acked = h .acked;
       term = h .term;
@@ -124,9 +101,11 @@ pub record Acks (i s m : ℕ) (j t n : ℕ) : Type 0 where
   pub term : t ≡ s
   pub index : n ≤ m
 
+-- as it does now
 pub acks-now : {i s m : ℕ} → Acks i s m i s m
 acks-now = record { box = refl; term = refl; index = omega arith }
 
+-- the history in which it has
 unfoldable pub moved : (i s m : ℕ) → List Entry → History → History
 moved i s m next h =
     record {
@@ -141,14 +120,17 @@ moved i s m next h =
 
 -- ---- leaders' logs that only grow
 
+-- Who won has won, and a won term's log begins as it did.
 pub record Grows (l more : Leaders) : Type 0 where
   pub won : (t c : ℕ) (start : List Entry) → l .won t c start → more .won t c start
   pub log : (t : ℕ) → Won l t → Begins (l .log t) (more .log t)
 
 module _ {l more : Leaders} (g : Grows l more) where
+  -- a won term stays won
   pub won-grows : {t : ℕ} → Won l t → Won more t
   won-grows {t} w = record { box = w .box; start = w .start; has = g .won t (w .box) (w .start) (w .has) }
 
+  -- what is acknowledged stays there
   pub reaches-grows : {t n : ℕ} → Reaches l t n → Reaches more t n
   reaches-grows {t} {n} r = record { won = won-grows (r .won); within = omega (arith, r .within, begins-long (g .log t (r .won))) }
 
@@ -156,12 +138,14 @@ module _ {l more : Leaders} (g : Grows l more) where
   pub first-grows : {t n : ℕ} → Reaches l t n → take n (l .log t) ≡ take n (more .log t)
   first-grows {t} {n} r = begins-same (g .log t (r .won)) n (r .within)
 
+  -- a log that comes from leaders' logs goes on doing so
   pub descends-grows : {log : List Entry} → Descends l log → Descends more log
   descends-grows {log} d = record { at = λ k a b. comes (d .at k a b) }
     where
       comes : {k : ℕ} → Comes l log k → Comes more log k
       comes {k} c = record { won = won-grows (c .won); begins = begins-trans (c .begins) (g .log _ (c .won)) }
 
+  -- and what is kept stays kept, or lost
   pub keeps-grows : {t n bound : ℕ} {log : List Entry} → Reaches l t n → Keeps l t n bound log → Keeps more t n bound log
   keeps-grows r (kept p) = kept (rw (first-grows r) at p)
   keeps-grows r (lost x) =

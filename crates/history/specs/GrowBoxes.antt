@@ -12,12 +12,13 @@ use Rattle.frames.specs.declared.Entry.{Entry}
 use Rattle.history.specs.Begins.{Begins, begins-trans, begins-take, begins-known}
 use Rattle.history.specs.History.{History, Won, Descends, Within, Reaches, Keeps, kept, lost, Facts}
 use Rattle.history.specs.Descent.{won-within, won-descends, within-more}
-use Rattle.history.specs.Grow.{raised, put-same, put-both, put-all, moved, keeps-more}
+use Rattle.history.specs.Put.{put-same, put-both, put-all}
+use Rattle.history.specs.Grow.{raised, moved, keeps-more}
 use Rattle.history.specs.GrowVotes.{raised-facts}
 use Rattle.history.specs.Join.{Joins, joins-keeps, joins-first, joins-descends, joins-within}
 
--- What is to be shown of a box that stands in term s with a log, and acknowledges index m.
-pub record Stands (h : History) (i s m : ℕ) (next : List Entry) : Type 0 where
+-- What is to be shown of a box that moves on to term s with a log, and acknowledges index m.
+pub record MovesOn (h : History) (i s m : ℕ) (next : List Entry) : Type 0 where
   pub higher : h .term i ≤ s
   pub reaches : Reaches (h .leaders) s m
   pub first : Begins (take m (h .leaders .log s)) next
@@ -26,7 +27,7 @@ pub record Stands (h : History) (i s m : ℕ) (next : List Entry) : Type 0 where
   pub keeps : (t n : ℕ) → h .acked i t n → Keeps (h .leaders) t n (suc s) next
 
 -- A box moves on. What it granted it granted in terms that it had reached, so its new acknowledgement is of none below them.
-pub moved-facts : {members : ℕ} {h : History} (i s m : ℕ) (next : List Entry) → Facts members h → Stands h i s m next
+pub moved-facts : {members : ℕ} {h : History} (i s m : ℕ) (next : List Entry) → Facts members h → MovesOn h i s m next
     → Facts members (moved i s m next h)
 unfolding moved raised
 moved-facts {members} {h} i s m next f x =
@@ -45,7 +46,7 @@ moved-facts {members} {h} i s m next f x =
       reaches = reaches;
       lower = lower;
       keeping = keeping;
-      keeps = put-both Kept (h .term) (h .log) i s next own others;
+      keeps = put-both Keeping (h .term) (h .log) i s next own others;
       asked-reached = up .asked-reached;
       voted-reached = up .voted-reached;
       acked-reached = λ j t n a. reached j t n (up .acked-reached j t n) a;
@@ -71,8 +72,8 @@ moved-facts {members} {h} i s m next f x =
     keeping j t n u c log (inr q) g l =
         absurd (omega (arith, f .voted-reached j u c (f .granted-voted j u c log g), ap (h .term) (q .box), q .term, x .higher))
 
-    Kept : ℕ → ℕ → List Entry → Type 0
-    Kept j term log = (t n : ℕ) → more .acked j t n → Keeps (h .leaders) t n (suc term) log
+    Keeping : ℕ → ℕ → List Entry → Type 0
+    Keeping j term log = (t n : ℕ) → more .acked j t n → Keeps (h .leaders) t n (suc term) log
 
     own : (t n : ℕ) → more .acked i t n → Keeps (h .leaders) t n (suc s) next
     own t n (inl a) = x .keeps t n a

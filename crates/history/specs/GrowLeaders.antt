@@ -13,7 +13,8 @@ use Rattle.raft.specs.Record.{term-at}
 use Rattle.history.specs.Begins.{Begins, begins-term, begins-self, begins-trans, begins-added}
 use Rattle.history.specs.Most.{Most}
 use Rattle.history.specs.History.{Leaders, History, Won, Granted, Leading, Facts}
-use Rattle.history.specs.Grow.{asks-now, put-same, put-other, put-all, with-leaders, winner, longer, Grows, won-grows, reaches-grows, descends-grows, keeps-grows}
+use Rattle.history.specs.Put.{put-same, put-other, put-all}
+use Rattle.history.specs.Grow.{asks-now, with-leaders, winner, longer, Grows, won-grows, reaches-grows, descends-grows, keeps-grows}
 
 -- What is to be shown of the leaders alone.
 pub record Lead (members : ℕ) (h : History) (more : Leaders) : Type 0 where
@@ -60,6 +61,7 @@ module _ {members : ℕ} {h : History} (c : ℕ) (f : Facts members h) (unwon : 
   other : {s : ℕ} → Won (h .leaders) s → s ≡ h .term c → ⊥
   other w same = unwon (rw same at w)
 
+  -- so the leaders only grow
   pub winner-grows : Grows (h .leaders) (winner (h .term c) c (h .log c) (h .leaders))
   unfolding winner
   winner-grows =

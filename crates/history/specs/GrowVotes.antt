@@ -10,11 +10,8 @@ use Rattle.frames.specs.declared.Entry.{Entry}
 use Rattle.history.specs.Most.{most-map}
 use Rattle.history.specs.History.{Leaders, History, Won, Fair, Descends, Keeps, kept, lost, Facts}
 use Rattle.history.specs.Descent.{within-more}
-use Rattle.history.specs.Grow.{put, put-same, put-all, raised, Asks, stood, Votes, gave, keeps-more}
-
--- a term put higher is no lower anywhere
-pub put-up : (term : ℕ → ℕ) (i s : ℕ) → term i ≤ s → (j : ℕ) → term j ≤ put term i s j
-put-up term i s l = put-all (λ j x. term j ≤ x) term i s l (λ j n. le-refl (term j))
+use Rattle.history.specs.Put.{put, put-same, put-up}
+use Rattle.history.specs.Grow.{raised, Asks, stood, Votes, gave, keeps-more}
 
 -- A box takes a higher term: what it did, it did in a term that it has reached.
 pub raised-facts : {members : ℕ} {h : History} (i s : ℕ) → Facts members h → h .term i ≤ s → Facts members (raised i s h)

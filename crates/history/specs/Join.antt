@@ -72,6 +72,7 @@ joins-within {sender = sender} {m = m} (follows e most) d x = rw e (within-first
 
 -- ---- terms behind an index
 
+-- the term behind n entries
 term-drop : (log : List Entry) (n i : ℕ) → term-at (drop n log) (suc i) ≡ term-at log (suc (n + i))
 unfolding term-at
 term-drop log n i = ap (λ e. e .term) (getD-drop n log i no-entry)

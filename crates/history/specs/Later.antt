@@ -11,8 +11,8 @@ use Rattle.history.specs.Most.{most-map}
 use Rattle.history.specs.History.{Leaders, History, Won, Facts}
 use Rattle.history.specs.LeaderComplete.{Committed, committed-reaches}
 use Rattle.history.specs.Book.{Covered, nothing, written}
+use Rattle.history.specs.Put.{put-up}
 use Rattle.history.specs.Grow.{raised, stood, gave, with-leaders, moved, Grows, won-grows, first-grows}
-use Rattle.history.specs.GrowVotes.{put-up}
 use Rattle.history.specs.GrowLeaders.{winner-grows, longer-grows}
 use Rattle.history.specs.Steps.{asks, gives, wins, adds, accepts}
 
@@ -25,10 +25,11 @@ pub record Later (h more : History) : Type 0 where
   pub acked : (j t n : ℕ) → h .acked j t n → more .acked j t n
   pub term : (j : ℕ) → h .term j ≤ more .term j
 
+-- leaders' logs as they are
 grows-self : (l : Leaders) → Grows l l
 grows-self l = record { won = λ t c start w. w; log = λ t w. begins-self (l .log t) }
 
--- a history is later than itself, and what is later than later is later
+-- a history is later than itself,
 pub later-self : (h : History) → Later h h
 later-self h =
     record {
@@ -40,6 +41,7 @@ later-self h =
       term = λ j. le-refl (h .term j);
     }
 
+-- and what is later than later is later
 pub later-trans : {a b c : History} → Later a b → Later b c → Later a c
 later-trans p q =
     record {
@@ -75,6 +77,7 @@ module _ {members : ℕ} {h more : History} (small : members < 128) (f : Facts m
 
 -- ---- each step makes a later history
 
+-- a term taken
 pub raised-later : (i s : ℕ) (h : History) → h .term i ≤ s → Later h (raised i s h)
 unfolding raised
 raised-later i s h l =
@@ -87,6 +90,7 @@ raised-later i s h l =
       term = put-up (h .term) i s l;
     }
 
+-- a candidate
 stood-later : (c t : ℕ) (h : History) → h .term c ≤ t → Later h (stood c t h)
 unfolding stood
 stood-later c t h l =
@@ -99,6 +103,7 @@ stood-later c t h l =
       term = put-up (h .term) c t l;
     }
 
+-- a vote
 gave-later : (i t c : ℕ) (h : History) → Later h (gave i t c h)
 unfolding gave
 gave-later i t c h =
@@ -111,6 +116,7 @@ gave-later i t c h =
       term = λ j. le-refl (h .term j);
     }
 
+-- a change of the leaders
 led-later : (h : History) {l : Leaders} → Grows (h .leaders) l → Later h (with-leaders l h)
 unfolding with-leaders
 led-later h g =
@@ -123,6 +129,7 @@ led-later h g =
       term = λ j. le-refl (h .term j);
     }
 
+-- a box that moves on
 moved-later : (i s m : ℕ) (next : List Entry) (h : History) → h .term i ≤ s → Later h (moved i s m next h)
 unfolding moved
 moved-later i s m next h l =
@@ -135,22 +142,27 @@ moved-later i s m next h l =
       term = put-up (h .term) i s l;
     }
 
+-- so: a candidate asks,
 pub asks-later : (c : ℕ) (h : History) → Later h (asks c h)
 unfolding asks
 asks-later c h = later-trans (stood-later c (suc (h .term c)) h (omega arith)) (gave-later c (suc (h .term c)) c _)
 
+-- a box gives its vote,
 pub gives-later : (i t c : ℕ) (h : History) → h .term i ≤ t → Later h (gives i t c h)
 unfolding gives
 gives-later i t c h l = later-trans (raised-later i t h l) (gave-later i t c _)
 
+-- a candidate wins,
 pub wins-later : {members : ℕ} {h : History} (c : ℕ) → Facts members h → (Won (h .leaders) (h .term c) → ⊥) → Later h (wins c h)
 unfolding wins with-leaders
 wins-later {h = h} c f unwon = later-trans (led-later h (winner-grows c f unwon)) (moved-later c (h .term c) _ _ _ (le-refl _))
 
+-- its leader adds an entry,
 pub adds-later : {members : ℕ} {h : History} (c : ℕ) (e : Entry) → Facts members h → e .term ≡ h .term c → Later h (adds c e h)
 unfolding adds with-leaders
 adds-later {h = h} c e f own = later-trans (led-later h (longer-grows e f own)) (moved-later c (h .term c) _ _ _ (le-refl _))
 
+-- a box accepts an append.
 pub accepts-later : (i s index : ℕ) (es : List Entry) (h : History) → h .term i ≤ s → Later h (accepts i s index es h)
 unfolding accepts
 accepts-later i s index es h l = moved-later i s _ _ h l

@@ -33,6 +33,7 @@ data Newer (index term own-index own-term : ℕ) : Type 0 where
   higher : own-term < term → Newer index term own-index own-term
   as-long : term ≡ own-term → own-index ≤ index → Newer index term own-index own-term
 
+-- as the test has it
 newer-facts : (index term own-index own-term : ℕ) → as-new index term own-index own-term ≡ true → Newer index term own-index own-term
 newer-facts index term own-index own-term h = go (ltb own-term term) refl h
   where

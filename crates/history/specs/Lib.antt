@@ -1,15 +1,18 @@
--- The history of a park: beginnings of logs, majorities, the facts, leader completeness, the one book; then growth: each step keeps the
--- facts, what a sent frame tells stays true, what is handed out is covered, and the alarms do not sound.
+-- The history of a park: what its boxes asked, voted, won and acknowledged, with no box's record in sight. In the order in which it is read:
+-- what a beginning and a majority are, then History and its Facts, from which alone LeaderComplete and Book follow (one leader a term, one book,
+-- every leader holds it); how a history grows (Put to Later), each step keeping the facts; what is handed out, what a sent frame tells, an
+-- election, a leader's commit and the alarms, as `safety` needs them; and two examples, that the facts can hold and what they do not say.
 pub mod Begins
 pub mod Most
 pub mod History
 pub mod Descent
 pub mod LeaderComplete
 pub mod Book
-pub mod Join
+pub mod Put
 pub mod Grow
 pub mod GrowVotes
 pub mod GrowLeaders
+pub mod Join
 pub mod GrowBoxes
 pub mod Steps
 pub mod Later
@@ -19,3 +22,4 @@ pub mod Election
 pub mod Settled
 pub mod Alarms
 pub mod Example
+pub mod ExampleLost

@@ -20,17 +20,21 @@ use Rattle.history.specs.Handed.{Hands}
 
 -- ---- a mask of seven tests
 
+-- a test as a digit
 abbrev one : Bool → ℕ
 one b = cond b 1 0
 
+-- it is one digit
 low : (b : Bool) → one b ≤ 1
 low true = omega arith
 low false = omega arith
 
+-- at its place
 times : (b : Bool) (n : ℕ) → cond b n 0 ≡ n * one b
 times true n = omega arith
 times false n = omega arith
 
+-- and 1 where the test passed
 set : (b : Bool) → one b ≡ 1 → b ≡ true
 set true e = refl
 set false e = absurd (omega arith)
@@ -39,6 +43,7 @@ set false e = absurd (omega arith)
 abbrev sum : (a b c d e f g : ℕ) → ℕ
 sum a b c d e f g = a + 2 * b + 4 * c + 8 * d + 16 * e + 32 * f + 64 * g
 
+-- taken apart again,
 record Digits (m a b c d e f g : ℕ) : Type 0 where
   of-1 : m / 1 % 2 ≡ a
   of-2 : m / 2 % 2 ≡ b
@@ -48,6 +53,7 @@ record Digits (m a b c d e f g : ℕ) : Type 0 where
   of-6 : m / 32 % 2 ≡ f
   of-7 : m / 64 % 2 ≡ g
 
+-- they are the seven
 digits : (a b c d e f g : ℕ) → a ≤ 1 → b ≤ 1 → c ≤ 1 → d ≤ 1 → e ≤ 1 → f ≤ 1 → g ≤ 1 → Digits (sum a b c d e f g) a b c d e f g
 digits a b c d e f g p q r s t u v = omega arith
 

@@ -19,7 +19,8 @@ use Rattle.history.specs.Most.{Most}
 use Rattle.history.specs.History.{History, Won, Granted, Fair, last-of, Facts}
 use Rattle.history.specs.Descent.{won-descends}
 use Rattle.history.specs.Join.{Offered, offered-long, stays, follows, joined-joins}
-use Rattle.history.specs.Grow.{asks-now, put, put-same, raised, stood, gave, with-leaders, winner, longer, moved, won-grows}
+use Rattle.history.specs.Put.{put, put-same}
+use Rattle.history.specs.Grow.{asks-now, raised, stood, gave, with-leaders, winner, longer, moved, won-grows}
 use Rattle.history.specs.GrowVotes.{raised-facts, stood-facts, gave-facts}
 use Rattle.history.specs.GrowLeaders.{winner-facts, longer-facts, longer-grows}
 use Rattle.history.specs.GrowBoxes.{accepted-facts}
@@ -71,6 +72,7 @@ newer-self log =
 unfoldable pub asks : ℕ → History → History
 asks c h = gave c (suc (h .term c)) c (stood c (suc (h .term c)) h)
 
+-- That keeps the facts: it had not reached the term.
 pub asks-facts : {members : ℕ} {h : History} (c : ℕ) → Facts members h → Facts members (asks c h)
 unfolding asks stood
 asks-facts {members} {h} c f =
@@ -82,6 +84,7 @@ asks-facts {members} {h} c f =
 unfoldable pub gives : (i t c : ℕ) → History → History
 gives i t c h = gave i t c (raised i t h)
 
+-- That keeps the facts, where it has voted for nobody else and the asker's log is as new.
 pub gives-facts : {members : ℕ} {h : History} (i t c : ℕ) → Facts members h → h .term i ≤ t → ((d : ℕ) → h .voted i t d → d ≡ c)
     → Fair (h .asked) t c (h .log i) → Facts members (gives i t c h)
 unfolding gives raised
@@ -91,6 +94,7 @@ gives-facts {h = h} i t c f l alone new = gave-facts i t c (raised-facts i t f l
 unfoldable pub wins : ℕ → History → History
 wins c h = moved c (h .term c) (length (h .log c)) (h .log c) (with-leaders (winner (h .term c) c (h .log c) (h .leaders)) h)
 
+-- That keeps the facts, where nobody has won the term and a majority granted.
 pub wins-facts : {members : ℕ} {h : History} (c : ℕ) → Facts members h → (Won (h .leaders) (h .term c) → ⊥)
     → h .asked (h .term c) c (h .log c) → Most members (λ j. Granted (h .granted) j (h .term c) c) → Facts members (wins c h)
 unfolding wins winner with-leaders
@@ -110,6 +114,7 @@ unfoldable pub adds : ℕ → Entry → History → History
 adds c e h =
     moved c (h .term c) (length (h .log c ++ (e ∷ []))) (h .log c ++ (e ∷ [])) (with-leaders (longer (h .term c) e (h .leaders)) h)
 
+-- That keeps the facts, where the term is won and its log is the box's.
 pub adds-facts : {members : ℕ} {h : History} (c : ℕ) (e : Entry) → Facts members h → Won (h .leaders) (h .term c)
     → h .leaders .log (h .term c) ≡ h .log c → e .term ≡ h .term c → Facts members (adds c e h)
 unfolding adds longer with-leaders
@@ -126,6 +131,7 @@ adds-facts {members} {h} c e f w own new =
 unfoldable pub accepts : (i s index : ℕ) → List Entry → History → History
 accepts i s index es h = moved i s (index + length es) (joined (h .log i) index es) h
 
+-- That keeps the facts, where the term was won, the append is of its log, and the box does not lack the previous entry.
 pub accepts-facts : {members : ℕ} {h : History} (i s : ℕ) {index prior : ℕ} {es : List Entry} → Facts members h → h .term i ≤ s
     → Won (h .leaders) s → Offered (h .leaders .log s) index prior es → lacks (h .log i) index prior ≡ false
     → Facts members (accepts i s index es h)

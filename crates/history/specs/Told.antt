@@ -64,7 +64,8 @@ module _ {members : ℕ} {h more : History} (small : members < 128) (f : Facts m
   asking-later : {from term index prior : ℕ} → Asking h from term index prior → Asking more from term index prior
   asking-later {from} {term} a = record { log = a .log; has = later .asked term from (a .log) (a .has); last = a .last; newest = a .newest }
 
-  vote-later : {from term to : ℕ} → Vote h from term to → Vote more from term to
+  -- and that a vote was given
+  pub vote-later : {from term to : ℕ} → Vote h from term to → Vote more from term to
   vote-later {from} {term} {to} v = record { voted = later .voted from term to (v .voted); counts = go (v .counts) }
     where
       go : Won (h .leaders) term ⊎ Granted (h .granted) from term to → Won (more .leaders) term ⊎ Granted (more .granted) from term to

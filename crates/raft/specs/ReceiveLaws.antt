@@ -477,7 +477,7 @@ good-joining s index prior commit es g n c o =
 -- ---- next and match
 
 -- what is kept for a box, replaced, is at most what it is replaced by
-set-most : (l : List ℕ) (i n : ℕ) → getD (set l i n) i 0 ≤ n
+pub set-most : (l : List ℕ) (i n : ℕ) → getD (set l i n) i 0 ≤ n
 set-most [] i n = omega arith
 set-most (x ∷ l) zero n = omega arith
 set-most (x ∷ l) (suc i) n = set-most l i n

@@ -3,22 +3,20 @@ use Prim.Native.Nat.{ℕ, _<_}
 use native.Mathlib.Omega.{arith}
 use mathlib.Core.Path.{_≡_, refl}
 use mathlib.Core.Bool.{true, false, _&&_}
-use mathlib.Core.List.{List, List·Memᴰ}
+use mathlib.Core.List.{List}
 use lib.Dec.{eqb, ltb, leb}
 use borrow.Author.Tests.{eqb-true, eqb-false, ltb-true, ltb-false, leb-true}
 use Rattle.digits.specs.Tests.{and-left, and-right}
 use Rattle.frames.specs.declared.Entry.{Entry}
 use Rattle.frames.specs.Message.{Message, vote-request, vote-answer, append, append-answer}
-use Rattle.frames.specs.Reading.{Reading, frame, refused, reading}
-use Rattle.frames.specs.OneSpelling.{frame-exactly}
 use Rattle.raft.specs.Majority.{bit, majority}
-use Rattle.raft.specs.Record.{State, leader, last-index, is-other}
+use Rattle.raft.specs.Record.{State, leader, last-index}
 use Rattle.raft.specs.Step.{Outcome, done, refuse, won, timeout, order, prompt}
-use Rattle.raft.specs.Receive.{taken, on-vote-request, counted, counts, on-vote-answer, lacks, cuts-committed, join, on-append, answered, hear, on-append-answer, deliver, sender, receiver, is-for, arrive, arrive-read, receive}
+use Rattle.raft.specs.Receive.{taken, on-vote-request, counted, counts, on-vote-answer, lacks, cuts-committed, join, on-append, answered, hear, on-append-answer, deliver}
 use Rattle.raft.specs.CommitLaws.{by-test}
 use Rattle.raft.specs.ReceiveLaws.{taken-none, Looks, Arrives}
 use Rattle.safety.specs.Park.{Event, times-out, takes-order, is-prompted, receives, outcome}
-use Rattle.safety.specs.Turn.{Sent}
+use Rattle.safety.specs.Sent.{Sent, bytes-come}
 
 -- A refusal's number, and why it is given where it is an alarm.
 pub data Alarm (sent : List (List ℕ)) (s : State) (n : ℕ) : Type 0 where
@@ -116,26 +114,6 @@ module _ (sent : List (List ℕ)) (s : State) where
   no-alarm : (n : ℕ) → (n ≡ 6 → ⊥) × (n ≡ 7 → ⊥) × (n ≡ 8 → ⊥) → Refuses (Alarm sent s) (refuse n)
   no-alarm n q = refuses-with (Alarm sent s) n (quiet (q .0) (q .1) (q .2))
 
-  -- any bytes that were sent,
-  frame-alarms : (bytes : List ℕ) → List·Memᴰ bytes sent → Refuses (Alarm sent s) (receive bytes s)
-  unfolding receive arrive-read arrive is-for
-  frame-alarms bytes there = go (reading bytes) refl
-    where
-      go : (r : Reading) → reading bytes ≡ r → Refuses (Alarm sent s) (arrive-read r s)
-      go (frame m) e =
-          let f = frame-exactly bytes m e in
-          by-test (Refuses (Alarm sent s)) (eqb (receiver m) (s .me) && is-other (s .me) (s .members) (sender m)) _ _
-          (λ h. deliver-alarms m
-          (record {
-            obeyed = f .0;
-            fits = f .1;
-            mine = eqb-true _ _ (and-left (eqb (receiver m) (s .me)) _ h);
-            other = and-right (eqb (receiver m) (s .me)) _ h;
-          })
-          (record { bytes = bytes; there = there; read = e }))
-          (λ h. no-alarm 2 (omega arith))
-      go refused e = no-alarm 1 (omega arith)
-
   -- **Why an alarm sounds,** at any event.
   pub event-alarms : (e : Event sent) → Refuses (Alarm sent s) (outcome e s)
   unfolding outcome timeout order prompt won
@@ -154,4 +132,6 @@ module _ (sent : List (List ℕ)) (s : State) where
       Q = Refuses (Alarm sent s)
   event-alarms is-prompted =
       by-test (Refuses (Alarm sent s)) (eqb (s .role) leader) _ _ (λ r. refuses-done _ _ _) (λ r. no-alarm 3 (omega arith))
-  event-alarms (receives bytes there) = frame-alarms bytes there
+  event-alarms (receives bytes there) =
+      bytes-come (Refuses (Alarm sent s)) s bytes (λ m a r. deliver-alarms m a (record { bytes = bytes; there = there; read = r }))
+      (no-alarm 1 (omega arith)) (no-alarm 2 (omega arith))

@@ -3,7 +3,7 @@
 use Prim.Native.Nat.{ℕ, _+_}
 use mathlib.Core.Path.{_≡_, refl, sym, ap, subst, _∙_}
 use mathlib.Core.Bool.{true}
-use mathlib.Core.List.{List, [], _++_, List·Memᴰ·not-nil}
+use mathlib.Core.List.{List, [], List·Memᴰ·not-nil}
 use lib.ListN.{length}
 use Rattle.frames.specs.declared.Entry.{Entry}
 use Rattle.frames.specs.Message.{Message}
@@ -12,30 +12,29 @@ use Rattle.raft.specs.Journal.{journaled}
 use Rattle.raft.specs.Step.{done}
 use Rattle.journal.specs.Opening.{restarted, opened, opening}
 use Rattle.journal.specs.LifeLaws.{Life, life-opens}
+use Rattle.history.specs.Put.{put-same, put-other}
 use Rattle.history.specs.Begins.{begins-self}
 use Rattle.history.specs.History.{History}
 use Rattle.history.specs.Told.{Tells}
 use Rattle.history.specs.Steps.{fresh-park}
-use Rattle.safety.specs.Park.{Park, start, Event, outcome, put, frames, Run, run-both, Reached}
-use Rattle.safety.specs.Turn.{Sent, Turn}
-use Rattle.safety.specs.TurnLaws.{step-turns}
-use Rattle.safety.specs.HistoryLaws.{put-all}
+use Rattle.safety.specs.Park.{Park, start, Event, outcome, frames, Run, run-both, Reached}
+use Rattle.safety.specs.Sent.{Sent}
+use Rattle.safety.specs.Proper.{event-reads, Proper, reached-proper}
 use Rattle.safety.specs.Disks.{Seat, Site, built, written, seated, Happens, steps, fails, reopens, trims, Goes, stays, goes, goes-both}
-use Rattle.safety.specs.DisksLaws.{put-here, Stands, built-stands, Comes, happens-comes}
+use Rattle.safety.specs.DisksLaws.{Mirrors, built-mirrors, RunsOn, happens-on}
 use Rattle.safety.specs.Carried.{Kept, Carried}
-use Rattle.safety.specs.CarriedRun.{start-carried, Onward, reached-proper, known-box, run-carried}
+use Rattle.safety.specs.CarriedRun.{start-carried, Onward, known-box, run-carried}
 use Rattle.safety.specs.Endings.{event-ending}
-use Rattle.safety.specs.HandsOut.{ending-hands}
 use Rattle.safety.specs.Next.{Known}
 use Rattle.safety.specs.Runs.{sites, InBook, empty, begins}
-use Rattle.safety.specs.Booked.{Carrying, Booked, in-book-less, hands-booked, old-booked, sends-booked}
+use Rattle.safety.specs.Booked.{Booked, in-book-less, quiet-booked, step-booked}
 use Rattle.safety.specs.BookRun.{restarted-hands}
 
 -- A run of a site, the park as which it stands, their history, and all that is handed out or carried in the book.
 pub record Site-told (mask : ℕ) {a : Site} (g : Goes mask (built mask) a) : Type 1 where
   pub park : Park
   pub reached : Reached mask park
-  pub stands : Stands mask a park
+  pub mirrors : Mirrors mask a park
   pub history : History
   pub carried : Carried mask history park
   pub booked : Booked (InBook (sites mask) g) history (λ j. a .seat j .now) (a .sent)
@@ -60,7 +59,7 @@ built-told mask =
     record {
       park = start mask;
       reached = Run.stays;
-      stands = built-stands mask;
+      mirrors = built-mirrors mask;
       history = fresh-park;
       carried = start-carried mask;
       booked = record {
@@ -72,12 +71,12 @@ built-told mask =
 module _ (mask : ℕ) {a : Site} (g : Goes mask (built mask) a) (x : Site-told mask g) where
   -- The frames that were sent at the site tell of the history.
   site-tells : (m : Message) → Sent (a .sent) m → Tells mask (x .history) m
-  site-tells m s = x .carried .tells m (record { bytes = s .bytes; there = x .stands .known (s .bytes) (s .there); read = s .read })
+  site-tells m s = x .carried .tells m (record { bytes = s .bytes; there = x .mirrors .known (s .bytes) (s .there); read = s .read })
 
   module _ {b : Site} (v : Happens mask a b) where
     -- What happens is a run of the park,
-    comes : Comes mask (x .park) b
-    comes = happens-comes mask a b (x .park) (x .stands) v
+    comes : RunsOn mask (x .park) b
+    comes = happens-on mask a b (x .park) (x .mirrors) v
 
     -- along which the history is carried.
     on : Onward mask (x .history) (comes .park)
@@ -89,7 +88,7 @@ module _ (mask : ℕ) {a : Site} (g : Goes mask (built mask) a) (x : Site-told m
         record {
           park = comes .park;
           reached = run-both (x .reached) (comes .run);
-          stands = comes .stands;
+          mirrors = comes .mirrors;
           history = on .history;
           carried = on .carried;
           booked = k;
@@ -100,10 +99,8 @@ module _ (mask : ℕ) {a : Site} (g : Goes mask (built mask) a) (x : Site-told m
   unfolding seated frames
   seat-told i b v k =
       told-on v
-      (record {
-        boxes = put-all (λ j y. InBook (sites mask) (goes g v) (handed-out (y .now))) (a .seat) i b k (λ j n. in-book-on v _ (x .booked .boxes j));
-        appends = old-booked (in-book-on v) mask (on v .later) site-tells (x .booked .appends);
-      })
+      (quiet-booked (in-book-on v) mask i (ap (λ x. x .now) (put-same (a .seat) i b)) (λ j n. ap (λ x. x .now) (put-other (a .seat) i b j n)) (on v .later)
+      site-tells (x .booked) k)
 
   module _ (i : ℕ) (m : is-membership i mask ≡ true) where
     -- A box that is opened by its journal hands out nothing.
@@ -111,20 +108,26 @@ module _ (mask : ℕ) {a : Site} (g : Goes mask (built mask) a) (x : Site-told m
         → opening i disk ≡ opened u n → Site-told mask (goes g v)
     unfolding seated
     opened-told u n disk v h =
-        let life : Life i mask u n disk = rw (put-here (a .seat) i (record { now = u; disk = disk; place = n })) at (comes v .stands .lives i m) in
+        let life : Life i mask u n disk = rw (put-same (a .seat) i (record { now = u; disk = disk; place = n })) at (comes v .mirrors .lives i m) in
         let back = life-opens i mask u n disk life in
         let same : u ≡ restarted u = cc in
         seat-told i _ v (empty (ap handed-out same ∙ restarted-hands u))
 
     -- What is known of a box that takes a step.
     known-seat : Known (x .history) (a .seat i .now)
-    known-seat = rw (x .stands .same i) (known-box mask (x .reached) (x .carried) i m)
+    known-seat = rw (x .mirrors .same i) (known-box mask (x .reached) (x .carried) i m)
 
-    -- A step: who leads writes the book, and all others hand out what was in it.
+    -- A step.
     step-told : (e : Event (a .sent)) (t : State) (ms : List Message) (o : outcome e (a .seat i .now) ≡ done t ms)
         → Site-told mask (goes g (steps i m e t ms o))
     unfolding seated
-    step-told e t ms o = told-on v (record { boxes = boxes; appends = appends })
+    step-told e t ms o =
+        told-on v
+        (step-booked (in-book-on v) mask i (ap (λ x. x .now) (put-same (a .seat) i seat)) (λ j n. ap (λ x. x .now) (put-other (a .seat) i seat j n)) (on v .later)
+        site-tells (x .booked) (λ c d. in-book-less (sites mask)) known-seat (rw (x .mirrors .same i) (own .ours)) kept
+        (rw (put-same (a .seat) i seat) at (leader-in-book (goes g v) i))
+        (event-reads (a .sent) (a .seat i .now) (known-seat .whole) (rw (x .mirrors .same i) (own .fits)) e t ms o)
+        (event-ending (a .sent) (a .seat i .now) e t ms o))
       where
         seat : Seat
         seat =
@@ -137,30 +140,13 @@ module _ (mask : ℕ) {a : Site} (g : Goes mask (built mask) a) (x : Site-told m
         v : Happens mask a (seated a i seat ms)
         v = steps i m e t ms o
 
-        turn : Turn (a .sent) (a .seat i .now) t ms
-        turn =
-            step-turns (a .sent) (a .seat i .now) (known-seat .whole) (rw (x .stands .same i) (reached-proper mask (x .park) (x .reached) i .fits)) e t ms o
-
-        leads : t .role ≡ leader → InBook (sites mask) (goes g v) (handed-out t)
-        leads = rw (put-here (a .seat) i seat) at (leader-in-book (goes g v) i)
+        own : Proper mask i (x .park .box i)
+        own = reached-proper mask (x .park) (x .reached) i
 
         kept : Kept (on v .history) t
         kept =
-            let same : t ≡ comes v .park .box i = rw (put-here (a .seat) i seat) at (comes v .stands .same i) in
+            let same : t ≡ comes v .park .box i = rw (put-same (a .seat) i seat) at (comes v .mirrors .same i) in
             subst (λ u. Kept (on v .history) u) (sym same) (on v .carried .kept i)
-
-        tells : (n : Message) → Sent (a .sent) n → Tells (a .seat i .now .members) (x .history) n
-        tells n s = rw (x .stands .same i, reached-proper mask (x .park) (x .reached) i .ours) (site-tells n s)
-
-        boxes : (j : ℕ) → InBook (sites mask) (goes g v) (handed-out (put (a .seat) i seat j .now))
-        boxes =
-            put-all (λ j y. InBook (sites mask) (goes g v) (handed-out (y .now))) (a .seat) i seat
-            (hands-booked (in-book-on v) (λ c d. in-book-less (sites mask)) (x .booked .boxes i) (x .booked .appends) leads
-            (ending-hands known-seat tells (event-ending (a .sent) (a .seat i .now) e t ms o)))
-            (λ j n. in-book-on v _ (x .booked .boxes j))
-
-        appends : Carrying (InBook (sites mask) (goes g v)) (on v .history) (frames ms ++ a .sent)
-        appends = sends-booked (in-book-on v) mask ms (on v .later) site-tells (x .booked .appends) kept leads (turn .reads) (turn .tells)
 
 -- So it is along every run,
 site-told : (mask : ℕ) {a : Site} (g : Goes mask (built mask) a) → Site-told mask g

@@ -1,5 +1,6 @@
 -- What boxes hand out, and what the appends that were sent carry, is in the book: over one move, whatever the telling of the run. Assumes nothing.
 use Prim.Native.Nat.{ℕ}
+use native.Mathlib.Decide.{ℕ-discrete}
 use mathlib.Core.Path.{_≡_}
 use mathlib.Core.List.{List, _++_}
 use mathlib.Core.Logic.{_⊎_, inl, inr}
@@ -13,12 +14,13 @@ use Rattle.history.specs.Begins.{Begins, begins-trans, begins-nothing}
 use Rattle.history.specs.History.{History}
 use Rattle.history.specs.Grow.{first-grows}
 use Rattle.history.specs.Later.{Later}
-use Rattle.history.specs.Told.{sending-won}
+use Rattle.history.specs.Told.{Tells, sending-won}
 use Rattle.safety.specs.Park.{frames}
-use Rattle.safety.specs.Turn.{Sent, Offers, Tells}
-use Rattle.safety.specs.HistoryLaws.{sent-cases}
+use Rattle.safety.specs.Sent.{Sent, sent-cases}
 use Rattle.safety.specs.Carried.{Kept}
-use Rattle.safety.specs.HandsOut.{HandsOut, leads, same, carried}
+use Rattle.safety.specs.Endings.{Ending}
+use Rattle.safety.specs.Next.{Known}
+use Rattle.safety.specs.HandsOut.{HandsOut, leads, same, carried, ending-hands, FromLeader, IfAppend, ending-appends}
 use Rattle.safety.specs.Runs.{Runs, InBook, empty, begins}
 
 -- Each append that was sent carries what is in a book.
@@ -39,7 +41,7 @@ in-book-less R x (begins moment until on whole i term l y) = begins moment until
 
 module _ {B C : List Entry → Type 0} (more : (log : List Entry) → B log → C log) where
   -- What the box that has moved hands out, where it is in the book if the box leads.
-  pub hands-booked : {sent : List (List ℕ)} {h : History} {s t : State} → ((a b : List Entry) → Begins a b → C b → C a) → B (handed-out s)
+  hands-booked : {sent : List (List ℕ)} {h : History} {s t : State} → ((a b : List Entry) → Begins a b → C b → C a) → B (handed-out s)
       → Carrying B h sent → (t .role ≡ leader → C (handed-out t)) → HandsOut sent h s t → C (handed-out t)
   hands-booked less had sent own (leads r) = own r
   hands-booked less had sent own (same e) = rw e (more _ had)
@@ -47,24 +49,48 @@ module _ {B C : List Entry → Type 0} (more : (log : List Entry) → B log → 
       less _ _ b (more _ (sent from to term index prior commit es s))
 
   -- What the appends carry that were sent before,
-  pub old-booked : (mask : ℕ) {h later : History} {sent : List (List ℕ)} → Later h later
-      → ((m : Message) → Sent sent m → Rattle.history.specs.Told.Tells mask h m) → Carrying B h sent → Carrying C later sent
-  unfolding Rattle.history.specs.Told.Tells
+  old-booked : (mask : ℕ) {h later : History} {sent : List (List ℕ)} → Later h later
+      → ((m : Message) → Sent sent m → Tells mask h m) → Carrying B h sent → Carrying C later sent
+  unfolding Tells
   old-booked mask l told had from to term index prior commit es s =
       let x = told _ s in
       rw (← first-grows (l .leaders) (record { won = sending-won x; within = x .hands .within }))
       (more _ (had from to term index prior commit es s))
 
   -- and those of the box that has moved: a leader's append carries what it hands out.
-  pub sends-booked : (mask : ℕ) {h later : History} {t : State} {sent : List (List ℕ)} (ms : List Message) → Later h later
-      → ((m : Message) → Sent sent m → Rattle.history.specs.Told.Tells mask h m) → Carrying B h sent → Kept later t
-      → (t .role ≡ leader → C (handed-out t)) → All (λ m. reading (text m) ≡ frame m) ms → All (Tells t) ms
+  sends-booked : (mask : ℕ) {h later : History} {t : State} {sent : List (List ℕ)} (ms : List Message) → Later h later
+      → ((m : Message) → Sent sent m → Tells mask h m) → Carrying B h sent → Kept later t
+      → (t .role ≡ leader → C (handed-out t)) → All (λ m. reading (text m) ≡ frame m) ms → All (IfAppend t) ms
       → Carrying C later (frames ms ++ sent)
-  unfolding Tells handed-out
-  sends-booked mask {h} {later} {t} {sent} ms l told had k own reads tells from to term index prior commit es s =
-      go (sent-cases (Tells t) ms sent reads tells (append from to term index prior commit es) s)
+  unfolding IfAppend handed-out
+  sends-booked mask {h} {later} {t} {sent} ms l told had k own reads offers from to term index prior commit es s =
+      go (sent-cases (IfAppend t) ms sent reads offers (append from to term index prior commit es) s)
     where
-      go : Offers t from term index prior commit es ⊎ Sent sent (append from to term index prior commit es)
+      go : FromLeader t term commit ⊎ Sent sent (append from to term index prior commit es)
           → C (take commit (later .leaders .log term))
       go (inl o) = rw (o .now, o .known, k .leads (o .leads) .log) (own (o .leads))
       go (inr o) = old-booked mask l told had from to term index prior commit es o
+
+  -- A box has moved, and the others have not.
+  module _ (mask : ℕ) {h later : History} {box next : ℕ → State} {sent : List (List ℕ)} (i : ℕ) {t : State} (here : next i ≡ t)
+      (others : (j : ℕ) → (j ≡ i → ⊥) → next j ≡ box j) (l : Later h later) (told : (m : Message) → Sent sent m → Tells mask h m) (had : Booked B h box sent) where
+    boxes-booked : C (handed-out t) → (j : ℕ) → C (handed-out (next j))
+    boxes-booked new j = go (ℕ-discrete j i)
+      where
+        go : Dec (j ≡ i) → C (handed-out (next j))
+        go (yes e) = rw (e, here) new
+        go (no n) = rw (others j n) (more _ (had .boxes j))
+
+    -- It has sent nothing.
+    pub quiet-booked : C (handed-out t) → Booked C later next sent
+    quiet-booked new = record { boxes = boxes-booked new; appends = old-booked mask l told (had .appends) }
+
+    -- **It took a step:** who leads writes the book, and all others hand out what was in it.
+    pub step-booked : {ms : List Message} → ((a b : List Entry) → Begins a b → C b → C a) → Known h (box i) → box i .members ≡ mask → Kept later t
+        → (t .role ≡ leader → C (handed-out t)) → All (λ m. reading (text m) ≡ frame m) ms → Ending sent (box i) t ms
+        → Booked C later next (frames ms ++ sent)
+    step-booked {ms} less k ours kept own reads end =
+        record {
+          boxes = boxes-booked (hands-booked less (had .boxes i) (had .appends) own (ending-hands k (λ m s. rw ours (told m s)) end));
+          appends = sends-booked mask ms l told (had .appends) kept own reads (ending-appends end);
+        }

@@ -13,7 +13,7 @@ use Rattle.history.specs.History.{History, Facts}
 use Rattle.history.specs.Handed.{Hands}
 use Rattle.history.specs.Told.{Vote, Tells}
 use Rattle.safety.specs.Park.{Park}
-use Rattle.safety.specs.Turn.{Sent}
+use Rattle.safety.specs.Sent.{Sent}
 
 -- Whom the history has a box vote for in its term is its vote, which is set.
 pub record Chose (vote d : ℕ) : Type 0 where
@@ -21,13 +21,13 @@ pub record Chose (vote d : ℕ) : Type 0 where
   pub cast : vote ≡ 0 → ⊥
 
 -- A candidate has asked with its log, has not won, and each vote that it has counted was given to it.
-pub record Standing (h : History) (s : State) : Type 0 where
+pub record AsCandidate (h : History) (s : State) : Type 0 where
   pub asked : h .asked (s .term) (s .me) (s .log)
   pub unwon : (start : List Entry) → h .leaders .won (s .term) (s .me) start → ⊥
   pub votes : (j : ℕ) → Member j (s .members) → holds (s .votes) j ≡ true → Vote h j (s .term) (s .me)
 
 -- A leader has won its term, its log is the term's, and what it matches was acknowledged.
-pub record Leading (h : History) (s : State) : Type 0 where
+pub record AsLeader (h : History) (s : State) : Type 0 where
   pub start : List Entry
   pub won : h .leaders .won (s .term) (s .me) start
   pub log : h .leaders .log (s .term) ≡ s .log
@@ -39,8 +39,8 @@ pub record Kept (h : History) (s : State) : Type 0 where
   pub log : h .log (s .me) ≡ s .log
   pub vote : (d : ℕ) → h .voted (s .me) (s .term) d → Chose (s .vote) d
   pub hands : Hands (s .members) h (s .term) (s .log) (s .commit)
-  pub stands : s .role ≡ candidate → Standing h s
-  pub leads : s .role ≡ leader → Leading h s
+  pub stands : s .role ≡ candidate → AsCandidate h s
+  pub leads : s .role ≡ leader → AsLeader h s
 
 -- The facts hold, each box is kept, and each frame that was sent tells of the history.
 pub record Carried (mask : ℕ) (h : History) (p : Park) : Type 0 where

@@ -12,15 +12,14 @@ use Rattle.raft.specs.Record.{State, fresh, is-membership}
 use Rattle.raft.specs.RecordLaws.{member-facts}
 use Rattle.raft.specs.SendLaws.{All}
 use Rattle.history.specs.History.{History}
+use Rattle.history.specs.Put.{put-all}
 use Rattle.history.specs.Handed.{hands-nothing}
 use Rattle.history.specs.Steps.{fresh-park, fresh-facts}
 use Rattle.history.specs.Later.{Later, later-self, later-trans}
 use Rattle.history.specs.Told.{Tells, tells-later}
 use Rattle.safety.specs.Park.{Park, start, after, Move, steps, restarts, Run, stays, moves, run-both, Reached}
-use Rattle.safety.specs.Turn.{Sent}
-use Rattle.safety.specs.TurnLaws.{step-turns}
-use Rattle.safety.specs.HistoryLaws.{put-all, Proper, told-proper, sent-cases}
-use Rattle.safety.specs.OneLeader.{reached-told}
+use Rattle.safety.specs.Sent.{Sent, sent-cases}
+use Rattle.safety.specs.Proper.{event-reads, reached-proper}
 use Rattle.safety.specs.Carried.{Kept, Carried}
 use Rattle.safety.specs.Endings.{event-ending}
 use Rattle.safety.specs.Grown.{kept-aside}
@@ -49,10 +48,6 @@ pub record Onward (mask : ℕ) (h : History) (q : Park) : Type 1 where
   pub history : History
   pub later : Later h history
   pub carried : Carried mask history q
-
--- At every moment a box has its number, the membership and good records.
-pub reached-proper : (mask : ℕ) (p : Park) → Reached mask p → (i : ℕ) → Proper mask i (p .box i)
-reached-proper mask p r = told-proper mask (reached-told mask p r .told)
 
 module _ (mask : ℕ) {h : History} {p : Park} (r : Reached mask p) (c : Carried mask h p) (i : ℕ) (m : is-membership i mask ≡ true) where
   -- What is known of the box that moves.
@@ -98,7 +93,7 @@ pub move-carried : (mask : ℕ) {h : History} {p q : Park} → Reached mask p �
 unfolding All
 move-carried mask {h = h} {p = p} r c (steps i m e t ms o) =
     let own = reached-proper mask p r i in
-    after-carried mask r c i m t ms (step-turns (p .sent) (p .box i) (own .whole m) (own .fits) e t ms o .reads)
+    after-carried mask r c i m t ms (event-reads (p .sent) (p .box i) (own .whole m) (own .fits) e t ms o)
     (ending-next (known-box mask r c i m) (λ n s. rw (own .ours) (c .tells n s)) (event-ending (p .sent) (p .box i) e t ms o))
 move-carried mask {p = p} r c (restarts i m) = after-carried mask r c i m _ [] tt (restart-next (known-box mask r c i m))
 

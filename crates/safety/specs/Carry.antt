@@ -18,7 +18,7 @@ use Rattle.raft.specs.Receive.{taken, voting, vote-answer-to, adding, following
 use Rattle.raft.specs.ReceiveLaws.{taken-keeps, taken-term, Grants, Counts, Looks, Hears, settled-heard, sent-by, term-of, good-heard, good-counted}
 use Rattle.history.specs.History.{History}
 use Rattle.history.specs.Told.{Tells, tells-later}
-use Rattle.safety.specs.Turn.{Sent}
+use Rattle.safety.specs.Sent.{Sent}
 use Rattle.safety.specs.Endings.{Came, Ending, rests, stands, leads-alone, takes-up, prompts, takes, votes, votes-not, wins, counts, declines, wants, joins, hears, hears-again}
 use Rattle.safety.specs.Grown.{asks-grown, wins-grown, adds-grown}
 use Rattle.safety.specs.Next.{Known, Next, known-small, next-behind, next-same, vote-no-tells, append-no-tells, following-next, taken-next}

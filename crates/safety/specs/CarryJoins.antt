@@ -11,7 +11,8 @@ use Rattle.raft.specs.SendLaws.{All}
 use Rattle.raft.specs.Receive.{lacks, joined, commit-after, joining, append-answer-to}
 use Rattle.history.specs.History.{History}
 use Rattle.history.specs.Handed.{Hands}
-use Rattle.history.specs.Grow.{put-same, moved}
+use Rattle.history.specs.Put.{put-same}
+use Rattle.history.specs.Grow.{moved}
 use Rattle.history.specs.Steps.{accepts}
 use Rattle.history.specs.Told.{Sending, Tells}
 use Rattle.history.specs.Alarms.{append-accepted}

@@ -1,10 +1,10 @@
 -- A leader settles its commit, sends, adds an entry and hears an answer. Assumes nothing.
-use Prim.Native.Nat.{ℕ, zero, suc, _-_, _≤_, _<_, max}
+use Prim.Native.Nat.{ℕ, _-_, _≤_, _<_, max}
 use native.Mathlib.Decide.{decLe, ℕ-discrete}
 use native.Mathlib.Omega.{arith}
 use mathlib.Core.Path.{_≡_, refl, sym, ap, _∙_}
 use mathlib.Core.Bool.{Bool, true, false, cond}
-use mathlib.Core.List.{List, [], _∷_, _++_}
+use mathlib.Core.List.{[], _∷_, _++_}
 use mathlib.Core.Logic.{inl, inr}
 use lib.Dec.{eqb}
 use lib.ListN.{length, getD, set}
@@ -21,15 +21,17 @@ use Rattle.raft.specs.SendLaws.{appends-all}
 use Rattle.raft.specs.Step.{ordered}
 use Rattle.raft.specs.StepLaws.{good-settle, good-ordered}
 use Rattle.raft.specs.Receive.{match-after, heard}
+use Rattle.raft.specs.ReceiveLaws.{set-most}
 use Rattle.history.specs.Begins.{begins-take, begins-added}
 use Rattle.history.specs.History.{History, Facts}
 use Rattle.history.specs.Handed.{hands-longer}
 use Rattle.history.specs.Settled.{settled-hands}
-use Rattle.history.specs.Grow.{put-same, with-leaders, longer, moved}
+use Rattle.history.specs.Put.{put-same}
+use Rattle.history.specs.Grow.{with-leaders, longer, moved}
 use Rattle.history.specs.Steps.{adds, adds-facts}
 use Rattle.history.specs.Later.{Later, adds-later}
 use Rattle.history.specs.Told.{Tells, hands-later}
-use Rattle.safety.specs.Carried.{Leading, Kept}
+use Rattle.safety.specs.Carried.{AsLeader, Kept}
 use Rattle.safety.specs.Next.{Known, Next, known-small, next-same}
 
 -- ---- a leader's commit, and what it sends
@@ -82,13 +84,13 @@ unfolding matches
 matches-by s P j = by-test P (eqb j (s .me)) (last-index s) (of-box (s .matched) j)
 
 -- What a leader has matched of another box was acknowledged.
-matched-acked : {h : History} {s : State} → Leading h s → (j : ℕ) → Member j (s .members) → eqb j (s .me) ≡ false → 1 ≤ of-box (s .matched) j
+matched-acked : {h : History} {s : State} → AsLeader h s → (j : ℕ) → Member j (s .members) → eqb j (s .me) ≡ false → 1 ≤ of-box (s .matched) j
     → h .acked j (s .term) (of-box (s .matched) j)
 unfolding matches
 matched-acked c j m e = rw e at (c .acked j m)
 
 -- So was its own last index.
-own-acked : {h : History} {s : State} → Leading h s → (j : ℕ) → Member j (s .members) → eqb j (s .me) ≡ true → 1 ≤ last-index s
+own-acked : {h : History} {s : State} → AsLeader h s → (j : ℕ) → Member j (s .members) → eqb j (s .me) ≡ true → 1 ≤ last-index s
     → h .acked j (s .term) (last-index s)
 unfolding matches
 own-acked c j m e = rw e at (c .acked j m)
@@ -100,6 +102,7 @@ adds-acked : {h : History} {s : State} (e : Entry) → Kept h s → adds (s .me)
 unfolding adds moved with-leaders
 adds-acked e o = inr (record { box = refl; term = sym (o .term); index = rw (o .log) (omega arith) })
 
+-- and it is the last of the term's log
 adds-log : {h : History} {s : State} (e : Entry) → Kept h s → h .leaders .log (s .term) ≡ s .log
     → adds (s .me) e h .leaders .log (s .term) ≡ s .log ++ (e ∷ [])
 unfolding adds moved with-leaders longer
@@ -136,7 +139,7 @@ ordered-known {h} {s} order k r room =
     o : Kept h s
     o = k .kept
 
-    c : Leading h s
+    c : AsLeader h s
     c = o .leads r
 
     won : h .leaders .won (h .term (s .me)) (s .me) (c .start)
@@ -149,12 +152,6 @@ ordered-known {h} {s} order k r room =
     later = adds-later (s .me) e (k .facts) (sym (o .term))
 
 -- ---- an append answer
-
--- what is kept for a box, replaced, is at most what it is replaced by
-set-most : (l : List ℕ) (i n : ℕ) → getD (set l i n) i 0 ≤ n
-set-most [] i n = omega arith
-set-most (x ∷ l) zero n = omega arith
-set-most (x ∷ l) (suc i) n = set-most l i n
 
 -- What a leader matches of the box that it has heard was acknowledged: before, or by this answer.
 heard-acked : {members : ℕ} {h : History} → Facts members h → (j term reply index old n : ℕ) → (1 ≤ old → h .acked j term old)
@@ -196,7 +193,7 @@ heard-known {h} {s} from reply index k r g least says =
     after : ℕ
     after = match-after reply index (of-box (s .matched) from)
 
-    other : Leading h s → (j : ℕ) → Member j (s .members) → eqb j (s .me) ≡ false → Dec (j ≡ from)
+    other : AsLeader h s → (j : ℕ) → Member j (s .members) → eqb j (s .me) ≡ false → Dec (j ≡ from)
         → 1 ≤ getD (set (s .matched) (from - 1) after) (j - 1) 0 → h .acked j (s .term) (getD (set (s .matched) (from - 1) after) (j - 1) 0)
     other c j m x (yes e) = λ l.
         heard-acked (k .facts) j (s .term) reply index (of-box (s .matched) j) _ (λ p. matched-acked c j m x p) (λ y. rw e (says y)) l

@@ -18,13 +18,14 @@ use Rattle.raft.specs.Step.{standing, leading}
 use Rattle.raft.specs.StepLaws.{none-of-box, good-standing, good-leading}
 use Rattle.history.specs.History.{History}
 use Rattle.history.specs.Handed.{hands-higher}
-use Rattle.history.specs.Grow.{put-same, stood, Votes, gave, with-leaders, winner, moved}
+use Rattle.history.specs.Put.{put-same}
+use Rattle.history.specs.Grow.{stood, Votes, gave, with-leaders, winner, moved}
 use Rattle.history.specs.Steps.{asks, asks-facts, wins}
 use Rattle.history.specs.Later.{asks-later}
 use Rattle.history.specs.Told.{Tells, hands-later}
 use Rattle.history.specs.Election.{asks-vote, asks-asked, asks-unwon, Elected, elected}
-use Rattle.safety.specs.Winners.{bit-holds}
-use Rattle.safety.specs.Carried.{Standing, Leading, Kept}
+use Rattle.safety.specs.Masks.{bit-holds}
+use Rattle.safety.specs.Carried.{AsCandidate, AsLeader, Kept}
 use Rattle.safety.specs.Grown.{asks-grown}
 use Rattle.safety.specs.Next.{Known, Next, known-small}
 
@@ -35,9 +36,9 @@ next-term : {h : History} {s : State} → Known h s → suc (h .term (s .me)) �
 next-term k = omega (arith, k .kept .term)
 
 -- a box that stands has asked, has not won, and has its own vote
-standing-stands : {h : History} {s : State} → Known h s → Standing (asks (s .me) h) (standing s)
+standing-candidate : {h : History} {s : State} → Known h s → AsCandidate (asks (s .me) h) (standing s)
 unfolding standing
-standing-stands {h} {s} k =
+standing-candidate {h} {s} k =
     let member = member-facts (s .me) (s .members) (k .whole .membership) in
     record {
       asked = rw (next-term k, k .kept .log) at (asks-asked (s .me) (k .facts));
@@ -58,7 +59,7 @@ standing-known {h} {s} k =
         log = k .kept .log;
         vote = λ d v. record { same = voted v; cast = λ e. omega (arith, member .least) };
         hands = hands-higher (hands-later (member .mask) (k .facts) (asks-later (s .me) h) (k .kept .hands)) (s .term + 1) (omega arith);
-        stands = λ r. standing-stands k;
+        stands = λ r. standing-candidate k;
         leads = λ r. absurd (omega arith);
       };
     }
@@ -102,19 +103,20 @@ election {h} {s} k r most =
     elected (s .me) (known-small k) (k .facts) (rw (o .term, o .log) (c .asked)) (rw (o .term) (c .unwon))
     (record { boxes = s .votes; enough = most; each = λ j m b. rw (o .term) (c .votes j m b) })
 
--- the winner of its term, and the term's log
+-- the winner of its term
 wins-won : {h : History} {s : State} → Kept h s → wins (s .me) h .leaders .won (s .term) (s .me) (h .log (s .me))
 unfolding wins moved with-leaders winner
 wins-won o = inr (record { term = sym (o .term); box = refl; whole = refl })
 
+-- the term's log is the winner's
 wins-log : {h : History} {s : State} → Kept h s → wins (s .me) h .leaders .log (s .term) ≡ s .log
 unfolding wins moved with-leaders winner
 wins-log {h} {s} o = rw (← o .term, ← o .log) (put-same (h .leaders .log) (h .term (s .me)) (h .log (s .me)))
 
 -- It then leads its term with its log, which it acknowledges itself.
-leading-leads : {h : History} {s : State} → Kept h s → Elected (s .members) h (s .me) → Leading (wins (s .me) h) (leading s)
+leading-leader : {h : History} {s : State} → Kept h s → Elected (s .members) h (s .me) → AsLeader (wins (s .me) h) (leading s)
 unfolding leading
-leading-leads {h} {s} o e =
+leading-leader {h} {s} o e =
     record {
       start = h .log (s .me);
       won = wins-won o;
@@ -136,6 +138,6 @@ leading-known {h} {s} k r e =
         vote = o .vote;
         hands = hands-later (known-small k) (k .facts) (e .later) (o .hands);
         stands = λ x. absurd (omega arith);
-        leads = λ x. leading-leads o e;
+        leads = λ x. leading-leader o e;
       };
     }

@@ -16,14 +16,15 @@ use Rattle.raft.specs.Commit.{matches}
 use Rattle.raft.specs.SendLaws.{All}
 use Rattle.raft.specs.Receive.{voting, vote-answer-to, adding}
 use Rattle.history.specs.History.{History, Fair}
-use Rattle.history.specs.Grow.{put-same, raised, Votes, gave}
+use Rattle.history.specs.Put.{put-same}
+use Rattle.history.specs.Grow.{raised, Votes, gave}
 use Rattle.history.specs.Steps.{gives, gives-facts}
 use Rattle.history.specs.Later.{Later, gives-later}
 use Rattle.history.specs.Told.{Asking, Vote, Tells, asking-fair, hands-later}
 use Rattle.history.specs.Election.{gives-vote}
-use Rattle.safety.specs.Winners.{holds-either, bit-holds}
-use Rattle.safety.specs.Carried.{Chose, Standing, Kept}
-use Rattle.safety.specs.Grown.{standing-later, leading-later, gives-grown}
+use Rattle.safety.specs.Masks.{holds-either, bit-holds}
+use Rattle.safety.specs.Carried.{Chose, AsCandidate, Kept}
+use Rattle.safety.specs.Grown.{candidate-later, leader-later, gives-grown}
 use Rattle.safety.specs.Next.{Known, Next, known-small}
 
 -- ---- a vote request
@@ -51,9 +52,9 @@ voting-next {h} {s} from index prior k least free new a =
         log = o .log;
         vote = λ d v. record { same = voted v; cast = λ e. omega arith };
         hands = hands-later small (k .facts) later (o .hands);
-        stands = λ r. let c = standing-later small (k .facts) later (λ start w. w) (o .stands r) in
+        stands = λ r. let c = candidate-later small (k .facts) later (λ start w. w) (o .stands r) in
             record { asked = c .asked; unwon = c .unwon; votes = c .votes };
-        leads = λ r. let c = leading-later small (k .facts) later (λ start w. refl) (o .leads r) in
+        leads = λ r. let c = leader-later small (k .facts) later (λ start w. refl) (o .leads r) in
             record { start = c .start; won = c .won; log = c .log; acked = c .acked };
       };
       tells = (λ e. gives-vote (s .me) (s .term) from (k .facts), tt);
@@ -103,6 +104,6 @@ adding-known {h} {s} from k r g least most yea =
       };
     }
   where
-    either : Standing h s → (j : ℕ) → Member j (s .members) → (holds (s .votes) j ≡ true) ⊎ (holds (bit from) j ≡ true) → Vote h j (s .term) (s .me)
+    either : AsCandidate h s → (j : ℕ) → Member j (s .members) → (holds (s .votes) j ≡ true) ⊎ (holds (bit from) j ≡ true) → Vote h j (s .term) (s .me)
     either c j m (inl b) = c .votes j m b
     either c j m (inr b) = rw (bit-holds from j least most (m .least) (m .most) b) yea

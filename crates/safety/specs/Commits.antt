@@ -1,5 +1,6 @@
 -- That demand 3's book is not always empty: the leader of Elects takes an order, box 2 takes it up, the leader commits it, and box 2 hands it out.
 -- Assumes nothing.
+use Prim.Native.Nat.{ℕ, _≤_}
 use native.Mathlib.Omega.{arith}
 use mathlib.Core.Path.{_≡_, refl}
 use mathlib.Core.List.{[], _∷_, List·Memᴰ·head}
@@ -13,11 +14,15 @@ use Rattle.raft.specs.Commit.{matches, matching, is-matched, highest, settled, 
 use Rattle.raft.specs.Sends.{to-others, appends}
 use Rattle.raft.specs.Step.{standing, leading, ordered, order, prompt}
 use Rattle.raft.specs.Receive.{taking, taken, voting, adding, lacks, agreed, stop, passes, joined, cuts-committed, joining, join, on-append, match-after, next-heard, heard, sends-again, answered, hear, on-append-answer, deliver, is-for, sender, receiver, arrive}
-use Rattle.safety.specs.Park.{Park, start, takes-order, is-prompted, receives, outcome, put, frames, after, steps, moves, Reached}
-use Rattle.safety.specs.Elects.{arrives, elected, gave, third, third-reached}
+use Rattle.history.specs.Put.{put}
+use Rattle.history.specs.Begins.{Begins, begins-long}
+use Rattle.safety.specs.Park.{Park, start, takes-order, is-prompted, receives, outcome, frames, after, Move, steps, Run, stays, moves, run-both, Reached, Leads}
+use Rattle.safety.specs.Runs.{parks}
+use Rattle.safety.specs.Demand3.{Demand3}
+use Rattle.safety.specs.Elects.{arrives, box-1-leads, box-2-votes, third, third-reached}
 
 -- To open this is to open every step.
-opens : Unit {0}
+unfoldable pub opens : Unit {0}
 unfolding start outcome fresh after put frames standing leading adding taking taken voting ordered settle settled highest is-matched matching matches
     order prompt majority ones is-membership is-other holds term-at table entry-fields sized arrive deliver is-for sender receiver on-append join
     lacks agreed stop passes joined cuts-committed joining on-append-answer hear heard match-after next-heard answered sends-again appends to-others
@@ -25,58 +30,60 @@ unfolding start outcome fresh after put frames standing leading adding taking ta
 opens = tt
 
 -- The order, in term 1.
-abbrev entry : Entry
+abbrev pub entry : Entry
 entry = record { term = 1; order = 50 }
 
 -- Box 1 takes the order,
-abbrev added : State
-added = settle (ordered elected 50)
+abbrev pub added : State
+added = settle (ordered box-1-leads 50)
 
-abbrev fourth : Park
+abbrev pub fourth : Park
 fourth = after third 1 added (appends added)
 
-fourth-reached : Reached 7 fourth
+to-fourth : Move 7 third fourth
 unfolding opens
-fourth-reached = moves third-reached (steps 1 refl (takes-order 50 (omega arith)) added (appends added) refl)
+to-fourth = steps 1 refl (takes-order 50 (omega arith)) added (appends added) refl
 
 -- box 2 takes it up,
 abbrev offer : Message
 offer = append 1 2 1 0 0 0 (entry ∷ [])
 
-abbrev joined-up : State
-joined-up = joining gave 0 0 (entry ∷ [])
+abbrev pub joined-up : State
+joined-up = joining box-2-votes 0 0 (entry ∷ [])
 
-abbrev fifth : Park
+abbrev pub fifth : Park
 fifth = after fourth 2 joined-up (append-answer 2 1 1 1 1 ∷ [])
 
-fifth-reached : Reached 7 fifth
+to-fifth : Move 7 fourth fifth
 unfolding opens
-fifth-reached =
-    moves fourth-reached
-    (steps 2 refl (receives (text offer) (List·Memᴰ·head refl)) joined-up (append-answer 2 1 1 1 1 ∷ [])
-    (arrives gave joined-up offer (append-answer 2 1 1 1 1 ∷ []) refl (omega arith) refl))
+to-fifth =
+    steps 2 refl (receives (text offer) (List·Memᴰ·head refl)) joined-up (append-answer 2 1 1 1 1 ∷ [])
+    (arrives box-2-votes joined-up offer (append-answer 2 1 1 1 1 ∷ []) refl (omega arith) refl)
 
 -- box 1 commits it,
-abbrev committed : State
+abbrev pub committed : State
 committed = settle (heard added 2 1 1)
 
-abbrev sixth : Park
+abbrev pub sixth : Park
 sixth = after fifth 1 committed []
 
-sixth-reached : Reached 7 sixth
+to-sixth : Move 7 fifth sixth
 unfolding opens
-sixth-reached =
-    moves fifth-reached
-    (steps 1 refl (receives (text (append-answer 2 1 1 1 1)) (List·Memᴰ·head refl)) committed []
-    (arrives added committed (append-answer 2 1 1 1 1) [] refl (omega arith) refl))
+to-sixth =
+    steps 1 refl (receives (text (append-answer 2 1 1 1 1)) (List·Memᴰ·head refl)) committed []
+    (arrives added committed (append-answer 2 1 1 1 1) [] refl (omega arith) refl)
+
+-- the run in which the leader commits
+pub commit-run : Run 7 third sixth
+commit-run = moves (moves (moves stays to-fourth) to-fifth) to-sixth
 
 -- tells so,
 abbrev seventh : Park
 seventh = after sixth 1 committed (appends committed)
 
-seventh-reached : Reached 7 seventh
+to-seventh : Move 7 sixth seventh
 unfolding opens
-seventh-reached = moves sixth-reached (steps 1 refl is-prompted committed (appends committed) refl)
+to-seventh = steps 1 refl is-prompted committed (appends committed) refl
 
 -- and box 2 hands it out.
 abbrev news : Message
@@ -88,12 +95,33 @@ handing = joining joined-up 1 1 []
 abbrev eighth : Park
 eighth = after seventh 2 handing (append-answer 2 1 1 1 1 ∷ [])
 
+to-eighth : Move 7 seventh eighth
+unfolding opens
+to-eighth =
+    steps 2 refl (receives (text news) (List·Memᴰ·head refl)) handing (append-answer 2 1 1 1 1 ∷ [])
+    (arrives joined-up handing news (append-answer 2 1 1 1 1 ∷ []) refl (omega arith) refl)
+
 -- **A run in which a follower hands out an order.**
 pub commits : Reached 7 eighth × (handed-out (eighth .box 2) ≡ entry ∷ [])
 unfolding opens
-commits = (
-  moves seventh-reached
-      (steps 2 refl (receives (text news) (List·Memᴰ·head refl)) handing (append-answer 2 1 1 1 1 ∷ [])
-      (arrives joined-up handing news (append-answer 2 1 1 1 1 ∷ []) refl (omega arith) refl)),
-  refl,
-)
+commits = (moves (moves (run-both third-reached commit-run) to-seventh) to-eighth, refl)
+
+-- ---- what is not claimed
+
+-- **A leader does not hold, before, what it commits later in its own term:** Demand3's `holds-after` with ≤ for < is false.
+pub own-term-not-held : ((p q : Park) → Reached 7 p → Run 7 p q → (i j t u : ℕ) → Leads (p .box i) t → Leads (q .box j) u → u ≤ t
+    → Begins (handed-out (q .box j)) (p .box i .log)) → ⊥
+unfolding opens
+own-term-not-held claim =
+    let b : Begins (entry ∷ []) [] =
+    claim third sixth third-reached commit-run 1 1 1 1 (record { role = refl; in-term = refl }) (record { role = refl; in-term = refl }) (omega arith) in
+    omega (arith, begins-long b)
+
+-- what a function asks for
+abbrev pub Premise : {A B : Type 0} → (A → B) → Type 0
+Premise {A = A} f = A
+
+-- And at those moments Demand3 asks for what there is not.
+pub own-term-not-asked : (d : Demand3 (parks 7)) (a : Leads (third .box 1) 1) (b : Leads (sixth .box 1) 1)
+    → Premise (d .holds-after third sixth third-reached commit-run 1 1 1 1 a b) → ⊥
+own-term-not-asked d a b premise = omega arith

@@ -10,7 +10,8 @@ use Rattle.raft.specs.Record.{State, fresh, is-membership}
 use Rattle.raft.specs.Journal.{head, journaled}
 use Rattle.raft.specs.Step.{done}
 use Rattle.journal.specs.Opening.{opened, opening}
-use Rattle.safety.specs.Park.{Event, outcome, put, frames}
+use Rattle.history.specs.Put.{put}
+use Rattle.safety.specs.Park.{Event, outcome, frames}
 
 -- A box with its disk, and the place on it at which the next line is written.
 pub record Seat : Type 0 where

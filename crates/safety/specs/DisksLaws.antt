@@ -5,7 +5,6 @@ use mathlib.Core.Bool.{true}
 use mathlib.Core.List.{List, [], _++_, List·Memᴰ, Memᴰ·append-left, Memᴰ·append-right, List·Memᴰ·append-cases}
 use mathlib.Core.Logic.{_⊎_, inl, inr}
 use lib.ListN.{length, take}
-use borrow.Author.Tests.{eq-eqb, ne-eqb}
 use Rattle.frames.specs.Message.{Message}
 use Rattle.raft.specs.Record.{State, is-membership}
 use Rattle.raft.specs.Journal.{journaled}
@@ -13,26 +12,26 @@ use Rattle.raft.specs.Step.{done}
 use Rattle.journal.specs.LineSpelling.{head-nine}
 use Rattle.journal.specs.Opening.{restarted, opened, opening}
 use Rattle.journal.specs.LifeLaws.{Life, life-opens, life-fails}
-use Rattle.safety.specs.Park.{Park, start, Event, times-out, takes-order, is-prompted, receives, outcome, put, frames, after, Move, Run, run-both}
-use Rattle.safety.specs.TurnLaws.{event-steps}
-use Rattle.safety.specs.HistoryLaws.{put-all}
+use Rattle.history.specs.Put.{put, put-same, put-other, put-all}
+use Rattle.safety.specs.Park.{Park, start, Event, times-out, takes-order, is-prompted, receives, outcome, frames, after, Move, Run, run-both}
+use Rattle.safety.specs.Proper.{event-steps}
 use Rattle.safety.specs.Disks.{Seat, Site, built, written, seated, Happens, steps, fails, reopens, trims, Goes, stays, goes}
 
 -- ---- events
 
 -- Frames that are among others.
-abbrev pub Within : List (List ℕ) → List (List ℕ) → Type 0
-Within few many = (bytes : List ℕ) → List·Memᴰ bytes few → List·Memᴰ bytes many
+abbrev pub Among : List (List ℕ) → List (List ℕ) → Type 0
+Among few many = (bytes : List ℕ) → List·Memᴰ bytes few → List·Memᴰ bytes many
 
 -- An event may happen where more was sent,
-pub wider : {few many : List (List ℕ)} → Within few many → Event few → Event many
+pub wider : {few many : List (List ℕ)} → Among few many → Event few → Event many
 wider w times-out = times-out
 wider w (takes-order o l) = takes-order o l
 wider w is-prompted = is-prompted
 wider w (receives bytes m) = receives bytes (w bytes m)
 
 -- and comes to the same.
-pub wider-same : {few many : List (List ℕ)} (w : Within few many) (e : Event few) (s : State) → outcome (wider w e) s ≡ outcome e s
+pub wider-same : {few many : List (List ℕ)} (w : Among few many) (e : Event few) (s : State) → outcome (wider w e) s ≡ outcome e s
 unfolding wider outcome
 wider-same w times-out s = refl
 wider-same w (takes-order o l) s = refl
@@ -40,83 +39,71 @@ wider-same w is-prompted s = refl
 wider-same w (receives bytes m) s = refl
 
 -- More frames on either side.
-pub within-more : (new few many : List (List ℕ)) → Within few many → Within (new ++ few) (new ++ many)
-within-more new few many w bytes m = go (List·Memᴰ·append-cases new m)
+pub among-more : (new few many : List (List ℕ)) → Among few many → Among (new ++ few) (new ++ many)
+among-more new few many w bytes m = go (List·Memᴰ·append-cases new m)
   where
     go : List·Memᴰ bytes new ⊎ List·Memᴰ bytes few → List·Memᴰ bytes (new ++ many)
     go (inl a) = Memᴰ·append-left many a
     go (inr b) = Memᴰ·append-right new (w bytes b)
 
--- ---- records
-
--- What was put is there,
-pub put-here : {A : Type 0} (box : ℕ → A) (i : ℕ) (t : A) → put box i t i ≡ t
-unfolding put
-put-here box i t = rw (eq-eqb i i refl)
-
--- and nowhere else.
-pub put-other : {A : Type 0} (box : ℕ → A) (i : ℕ) (t : A) (j : ℕ) → (j ≡ i → ⊥) → put box i t j ≡ box j
-unfolding put
-put-other box i t j n = rw (ne-eqb j i n)
-
 -- ---- a site and a park
 
 -- A site stands as a park: the same records, all that was sent, and each disk is of its box's life.
-pub record Stands (mask : ℕ) (a : Site) (p : Park) : Type 0 where
+pub record Mirrors (mask : ℕ) (a : Site) (p : Park) : Type 0 where
   pub same : (i : ℕ) → a .seat i .now ≡ p .box i
-  pub known : Within (a .sent) (p .sent)
+  pub known : Among (a .sent) (p .sent)
   pub lives : (i : ℕ) → is-membership i mask ≡ true → Life i mask (a .seat i .now) (a .seat i .place) (a .seat i .disk)
 
 -- One seat changes as the park's record does.
-pub stands-put : (mask : ℕ) (a : Site) (p : Park) (i : ℕ) (b : Seat) (t : State) (ms ns : List Message)
+pub mirrors-put : (mask : ℕ) (a : Site) (p : Park) (i : ℕ) (b : Seat) (t : State) (ms ns : List Message)
     → ((j : ℕ) → (j ≡ i → ⊥) → a .seat j .now ≡ p .box j)
     → ((j : ℕ) → is-membership j mask ≡ true → Life j mask (a .seat j .now) (a .seat j .place) (a .seat j .disk))
-    → b .now ≡ t → Life i mask (b .now) (b .place) (b .disk) → Within (frames ms ++ a .sent) (frames ns ++ p .sent)
-    → Stands mask (seated a i b ms) (after p i t ns)
+    → b .now ≡ t → Life i mask (b .now) (b .place) (b .disk) → Among (frames ms ++ a .sent) (frames ns ++ p .sent)
+    → Mirrors mask (seated a i b ms) (after p i t ns)
 unfolding seated after
-stands-put mask a p i b t ms ns others lives e l w =
+mirrors-put mask a p i b t ms ns others lives e l w =
     record {
-      same = put-all (λ j x. x .now ≡ put (p .box) i t j) (a .seat) i b (e ∙ sym (put-here (p .box) i t))
+      same = put-all (λ j x. x .now ≡ put (p .box) i t j) (a .seat) i b (e ∙ sym (put-same (p .box) i t))
           (λ j n. others j n ∙ sym (put-other (p .box) i t j n));
       known = w;
       lives = put-all (λ j x. is-membership j mask ≡ true → Life j mask (x .now) (x .place) (x .disk)) (a .seat) i b (λ m. l) (λ j n. lives j);
     }
 
 -- A site that is built stands as a park at its start.
-pub built-stands : (mask : ℕ) → Stands mask (built mask) (start mask)
+pub built-mirrors : (mask : ℕ) → Mirrors mask (built mask) (start mask)
 unfolding built start
-built-stands mask =
+built-mirrors mask =
     record { same = λ i. refl; known = λ bytes m. m; lives = λ i m. rw (head-nine i mask) (Life.starts m) }
 
 -- ---- what happens at the site is a run of the park
 
 -- A later park of a park's run, as which a site stands.
-pub record Comes (mask : ℕ) (p : Park) (b : Site) : Type 0 where
+pub record RunsOn (mask : ℕ) (p : Park) (b : Site) : Type 0 where
   pub park : Park
   pub run : Run mask p park
-  pub stands : Stands mask b park
+  pub mirrors : Mirrors mask b park
 
-module _ (mask : ℕ) (a : Site) (p : Park) (s : Stands mask a p) (i : ℕ) (m : is-membership i mask ≡ true) where
+module _ (mask : ℕ) (a : Site) (p : Park) (s : Mirrors mask a p) (i : ℕ) (m : is-membership i mask ≡ true) where
   -- A box that is opened with its stored part has restarted.
-  comes-restarted : (u : State) (n : ℕ) (disk : List ℕ) → u ≡ restarted (a .seat i .now) → Life i mask u n disk
-      → Comes mask p (seated a i (record { now = u; disk = disk; place = n }) [])
+  on-restarted : (u : State) (n : ℕ) (disk : List ℕ) → u ≡ restarted (a .seat i .now) → Life i mask u n disk
+      → RunsOn mask p (seated a i (record { now = u; disk = disk; place = n }) [])
   unfolding frames
-  comes-restarted u n disk e l =
+  on-restarted u n disk e l =
       record {
         park = after p i (restarted (p .box i)) [];
         run = Run.moves Run.stays (Move.restarts i m);
-        stands = stands-put mask a p i _ _ [] [] (λ j k. s .same j) (s .lives) (e ∙ ap restarted (s .same i)) l (s .known);
+        mirrors = mirrors-put mask a p i _ _ [] [] (λ j k. s .same j) (s .lives) (e ∙ ap restarted (s .same i)) l (s .known);
       }
 
   -- A cut behind the place is nothing to the park.
-  comes-trimmed : (n : ℕ) (disk : List ℕ) → Life i mask (a .seat i .now) n disk
-      → Comes mask p (seated a i (record { now = a .seat i .now; disk = disk; place = n }) [])
+  on-trimmed : (n : ℕ) (disk : List ℕ) → Life i mask (a .seat i .now) n disk
+      → RunsOn mask p (seated a i (record { now = a .seat i .now; disk = disk; place = n }) [])
   unfolding seated frames
-  comes-trimmed n disk l =
+  on-trimmed n disk l =
       record {
         park = p;
         run = Run.stays;
-        stands = record {
+        mirrors = record {
           same = put-all (λ j x. x .now ≡ p .box j) (a .seat) i _ (s .same i) (λ j k. s .same j);
           known = s .known;
           lives = put-all (λ j x. is-membership j mask ≡ true → Life j mask (x .now) (x .place) (x .disk)) (a .seat) i _ (λ k. l) (λ j k. s .lives j);
@@ -125,36 +112,36 @@ module _ (mask : ℕ) (a : Site) (p : Park) (s : Stands mask a p) (i : ℕ) (m :
 
   module _ (e : Event (a .sent)) (t : State) (ms : List Message) (o : outcome e (a .seat i .now) ≡ done t ms) where
     -- An event that is not refused is not refused in the park.
-    comes-done : outcome (wider (s .known) e) (p .box i) ≡ done t ms
-    comes-done = wider-same (s .known) e (p .box i) ∙ (rw (← s .same i) o)
+    on-done : outcome (wider (s .known) e) (p .box i) ≡ done t ms
+    on-done = wider-same (s .known) e (p .box i) ∙ (rw (← s .same i) o)
 
     -- A step is the park's step,
-    comes-stepped : (n : ℕ) (disk : List ℕ) → Life i mask t n disk
-        → Comes mask p (seated a i (record { now = t; disk = disk; place = n }) ms)
-    comes-stepped n disk l =
+    on-stepped : (n : ℕ) (disk : List ℕ) → Life i mask t n disk
+        → RunsOn mask p (seated a i (record { now = t; disk = disk; place = n }) ms)
+    on-stepped n disk l =
         record {
           park = after p i t ms;
-          run = Run.moves Run.stays (Move.steps i m (wider (s .known) e) t ms comes-done);
-          stands = stands-put mask a p i _ _ ms ms (λ j k. s .same j) (s .lives) refl l (within-more (frames ms) (a .sent) (p .sent) (s .known));
+          run = Run.moves Run.stays (Move.steps i m (wider (s .known) e) t ms on-done);
+          mirrors = mirrors-put mask a p i _ _ ms ms (λ j k. s .same j) (s .lives) refl l (among-more (frames ms) (a .sent) (p .sent) (s .known));
         }
 
     -- and one whose line was whole when power failed is a step and a restart: its messages were lost.
-    comes-both : (u : State) (n : ℕ) (disk : List ℕ) → u ≡ restarted t → Life i mask u n disk
-        → Comes mask p (seated a i (record { now = u; disk = disk; place = n }) [])
+    on-both : (u : State) (n : ℕ) (disk : List ℕ) → u ≡ restarted t → Life i mask u n disk
+        → RunsOn mask p (seated a i (record { now = u; disk = disk; place = n }) [])
     unfolding frames after
-    comes-both u n disk r l =
+    on-both u n disk r l =
         record {
           park = after (after p i t ms) i (restarted (put (p .box) i t i)) [];
-          run = Run.moves (Run.moves Run.stays (Move.steps i m (wider (s .known) e) t ms comes-done)) (Move.restarts i m);
-          stands = stands-put mask a (after p i t ms) i _ _ [] [] (λ j k. s .same j ∙ sym (put-other (p .box) i t j k)) (s .lives)
-              (r ∙ ap restarted (sym (put-here (p .box) i t))) l (λ bytes x. Memᴰ·append-right (frames ms) (s .known bytes x));
+          run = Run.moves (Run.moves Run.stays (Move.steps i m (wider (s .known) e) t ms on-done)) (Move.restarts i m);
+          mirrors = mirrors-put mask a (after p i t ms) i _ _ [] [] (λ j k. s .same j ∙ sym (put-other (p .box) i t j k)) (s .lives)
+              (r ∙ ap restarted (sym (put-same (p .box) i t))) l (λ bytes x. Memᴰ·append-right (frames ms) (s .known bytes x));
         }
 
 -- **Whatever happens at a site, its park runs on.**
-pub happens-comes : (mask : ℕ) (a b : Site) (p : Park) → Stands mask a p → Happens mask a b → Comes mask p b
-happens-comes mask a b p s (steps i m e t ms o) =
-    comes-stepped mask a p s i m e t ms o _ _ (Life.steps (s .lives i m) (event-steps (a .sent) (a .seat i .now) e t ms o))
-happens-comes mask a b p s (fails i m e t ms o k u n h) =
+pub happens-on : (mask : ℕ) (a b : Site) (p : Park) → Mirrors mask a p → Happens mask a b → RunsOn mask p b
+happens-on mask a b p s (steps i m e t ms o) =
+    on-stepped mask a p s i m e t ms o _ _ (Life.steps (s .lives i m) (event-steps (a .sent) (a .seat i .now) e t ms o))
+happens-on mask a b p s (fails i m e t ms o k u n h) =
     go (life-fails i mask (a .seat i .now) t (a .seat i .place) (a .seat i .disk) (s .lives i m) step k)
   where
     step : Rattle.journal.specs.Runs.Step (a .seat i .now) t
@@ -165,25 +152,25 @@ happens-comes mask a b p s (fails i m e t ms o k u n h) =
 
     go : (opening i torn ≡ opened (restarted (a .seat i .now)) (a .seat i .place))
         ⊎ (opening i torn ≡ opened (restarted t) (a .seat i .place + length (journaled (a .seat i .now) t)))
-        → Comes mask p (seated a i (record { now = u; disk = torn; place = n }) [])
+        → RunsOn mask p (seated a i (record { now = u; disk = torn; place = n }) [])
     go (inl before) =
         let same : u ≡ restarted (a .seat i .now) = cc in
-        comes-restarted mask a p s i m u n torn same (Life.fails (s .lives i m) step k h)
+        on-restarted mask a p s i m u n torn same (Life.fails (s .lives i m) step k h)
     go (inr behind) =
         let same : u ≡ restarted t = cc in
-        comes-both mask a p s i m e t ms o u n torn same (Life.fails (s .lives i m) step k h)
-happens-comes mask a b p s (reopens i m u n h) =
+        on-both mask a p s i m e t ms o u n torn same (Life.fails (s .lives i m) step k h)
+happens-on mask a b p s (reopens i m u n h) =
     let was = life-opens i mask (a .seat i .now) (a .seat i .place) (a .seat i .disk) (s .lives i m) in
     let same : u ≡ restarted (a .seat i .now) = cc in
-    comes-restarted mask a p s i m u n (a .seat i .disk) same (Life.reopens (s .lives i m) h)
-happens-comes mask a b p s (trims i m) = comes-trimmed mask a p s i m _ _ (Life.trims (s .lives i m))
+    on-restarted mask a p s i m u n (a .seat i .disk) same (Life.reopens (s .lives i m) h)
+happens-on mask a b p s (trims i m) = on-trimmed mask a p s i m _ _ (Life.trims (s .lives i m))
 
 -- So a run of the site is a run of its park.
-pub goes-comes : (mask : ℕ) {a b : Site} (p : Park) → Stands mask a p → Goes mask a b → Comes mask p b
-goes-comes mask p s stays = record { park = p; run = Run.stays; stands = s }
-goes-comes mask p s (goes {b = b} {c = c} g h) = go (goes-comes mask p s g)
+pub goes-on : (mask : ℕ) {a b : Site} (p : Park) → Mirrors mask a p → Goes mask a b → RunsOn mask p b
+goes-on mask p s stays = record { park = p; run = Run.stays; mirrors = s }
+goes-on mask p s (goes {b = b} {c = c} g h) = go (goes-on mask p s g)
   where
-    go : Comes mask p b → Comes mask p c
+    go : RunsOn mask p b → RunsOn mask p c
     go x =
-        let y = happens-comes mask b c (x .park) (x .stands) h in
-        record { park = y .park; run = run-both (x .run) (y .run); stands = y .stands }
+        let y = happens-on mask b c (x .park) (x .mirrors) h in
+        record { park = y .park; run = run-both (x .run) (y .run); mirrors = y .mirrors }

@@ -13,18 +13,20 @@ use Rattle.raft.specs.Commit.{settle}
 use Rattle.raft.specs.Sends.{to-others, vote-requests, appends}
 use Rattle.raft.specs.Step.{done, standing, leading, won, timeout}
 use Rattle.raft.specs.Receive.{taking, taken, grants, says-yes, voting, asked, on-vote-request, adding, counted, counts, on-vote-answer, deliver, is-for, sender, receiver, arrive, arrive-read, receive}
-use Rattle.safety.specs.Park.{Park, start, times-out, receives, outcome, put, frames, after, steps, stays, moves, Reached, Leads}
+use Rattle.journal.specs.Opening.{stored, restarted}
+use Rattle.history.specs.Put.{put}
+use Rattle.safety.specs.Park.{Park, start, times-out, receives, outcome, frames, after, Move, steps, restarts, stays, moves, Reached, Leads}
 
 -- Box 1 of three stands,
-abbrev stood : State
-stood = standing (fresh 1 7)
+abbrev pub box-1-stands : State
+box-1-stands = standing (fresh 1 7)
 
-abbrev first : Park
-first = after (start 7) 1 stood (vote-requests stood)
+abbrev pub first : Park
+first = after (start 7) 1 box-1-stands (vote-requests box-1-stands)
 
 first-reached : Reached 7 first
 unfolding start outcome timeout majority ones is-membership holds fresh
-first-reached = moves stays (steps 1 refl times-out stood (vote-requests stood) refl)
+first-reached = moves stays (steps 1 refl times-out box-1-stands (vote-requests box-1-stands) refl)
 
 -- a frame as it was written is the message that arrives
 pub arrives : (s t : State) (m : Message) (ms : List Message) → obeys m ≡ true → sized (table m) → arrive m s ≡ done t ms → receive (text m) s ≡ done t ms
@@ -32,35 +34,40 @@ unfolding receive arrive-read
 arrives s t m ms o z e = rw (frame-when (text m) m o z refl) e
 
 -- box 2 gives it its vote,
-abbrev request : Message
+abbrev pub request : Message
 request = vote-request 1 2 1 0 0
 
-abbrev pub gave : State
-gave = voting (taking 1 (fresh 2 7)) 1
+abbrev pub box-2-votes : State
+box-2-votes = voting (taking 1 (fresh 2 7)) 1
 
-abbrev second : Park
-second = after first 2 gave (vote-answer 2 1 1 1 ∷ [])
+abbrev pub second : Park
+second = after first 2 box-2-votes (vote-answer 2 1 1 1 ∷ [])
 
 second-reached : Reached 7 second
 unfolding start outcome fresh after put frames standing vote-requests to-others is-membership is-other holds table sized arrive deliver is-for sender receiver on-vote-request asked says-yes grants taken taking voting term-at
 second-reached =
     moves first-reached
-    (steps 2 refl (receives (text request) (List·Memᴰ·head refl)) gave (vote-answer 2 1 1 1 ∷ [])
-    (arrives (fresh 2 7) gave request (vote-answer 2 1 1 1 ∷ []) refl (omega arith) refl))
+    (steps 2 refl (receives (text request) (List·Memᴰ·head refl)) box-2-votes (vote-answer 2 1 1 1 ∷ [])
+    (arrives (fresh 2 7) box-2-votes request (vote-answer 2 1 1 1 ∷ []) refl (omega arith) refl))
+
+-- (which it still has when it comes back,)
+pub comes-back-voted : (q : Park) × Move 7 second q × (q .box 2 .vote ≡ 1)
+unfolding after put voting restarted stored is-membership holds
+comes-back-voted = (_, restarts 2 refl, refl)
 
 -- and box 1 leads.
-abbrev pub elected : State
-elected = settle (leading (adding stood 2))
+abbrev pub box-1-leads : State
+box-1-leads = settle (leading (adding box-1-stands 2))
 
 abbrev pub third : Park
-third = after second 1 elected (appends elected)
+third = after second 1 box-1-leads (appends box-1-leads)
 
 pub third-reached : Reached 7 third
 unfolding start outcome fresh after put frames standing vote-requests to-others is-membership is-other holds table sized arrive deliver is-for sender receiver on-vote-answer counts counted taken adding won majority ones
 third-reached =
     moves second-reached
-    (steps 1 refl (receives (text (vote-answer 2 1 1 1)) (List·Memᴰ·head refl)) elected (appends elected)
-    (arrives stood elected (vote-answer 2 1 1 1) (appends elected) refl (omega arith) refl))
+    (steps 1 refl (receives (text (vote-answer 2 1 1 1)) (List·Memᴰ·head refl)) box-1-leads (appends box-1-leads)
+    (arrives box-1-stands box-1-leads (vote-answer 2 1 1 1) (appends box-1-leads) refl (omega arith) refl))
 
 -- **A run with a leader.**
 pub elects : Reached 7 third × Leads (third .box 1) 1

@@ -15,10 +15,9 @@ use Rattle.raft.specs.Sends.{append-to, appends, vote-requests}
 use Rattle.raft.specs.Step.{standing, leading, ordered}
 use Rattle.raft.specs.Receive.{taken, voting, vote-answer-to, adding, lacks, following, joining, append-answer-to, deliver}
 use Rattle.raft.specs.StepLaws.{timeout-ends, order-ends, prompt-ends}
-use Rattle.raft.specs.ReceiveLaws.{Ends, vote-request-ends, Grants, yes-facts, Counts, vote-answer-ends, Looks, append-ends, Hears, settled-heard, append-answer-ends, Arrives}
+use Rattle.raft.specs.ReceiveLaws.{Ends, ends-refuse, vote-request-ends, Grants, yes-facts, Counts, vote-answer-ends, Looks, append-ends, Hears, settled-heard, append-answer-ends, Arrives}
 use Rattle.safety.specs.Park.{Event, times-out, takes-order, is-prompted, receives, outcome}
-use Rattle.safety.specs.Turn.{Sent}
-use Rattle.safety.specs.ActLaws.{frame-ends}
+use Rattle.safety.specs.Sent.{Sent, bytes-come}
 
 -- A message that was sent has come to the box for which it is.
 pub record Came (sent : List (List ℕ)) (s : State) (m : Message) : Type 0 where
@@ -81,5 +80,6 @@ event-ending sent s times-out = timeout-ends (Ending sent s) s (λ r. rests) (λ
 event-ending sent s (takes-order o l) = order-ends (Ending sent s) o s (λ r l. takes-up r l o)
 event-ending sent s is-prompted = prompt-ends (Ending sent s) s (λ r. prompts r)
 event-ending sent s (receives bytes there) =
-    frame-ends (Ending sent s) s bytes
+    bytes-come (Ends (Ending sent s)) s bytes
     (λ m a r. deliver-ending sent s m (record { arrives = a; sent-once = record { bytes = bytes; there = there; read = r } }))
+    (ends-refuse (Ending sent s) 1) (ends-refuse (Ending sent s) 2)

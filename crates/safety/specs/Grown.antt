@@ -4,15 +4,15 @@ use mathlib.Core.Path.{_≡_, refl, _∙_}
 use mathlib.Core.List.{List}
 use mathlib.Core.Logic.{_⊎_, inl, inr}
 use Rattle.frames.specs.declared.Entry.{Entry}
-use Rattle.frames.specs.Message.{vote-answer}
 use Rattle.raft.specs.Record.{State}
 use Rattle.history.specs.History.{History, Facts}
 use Rattle.history.specs.Book.{one-leader}
-use Rattle.history.specs.Grow.{asks-now, Asks, put-other, raised, stood, Votes, gave, with-leaders, winner, longer, moved}
+use Rattle.history.specs.Put.{put-other}
+use Rattle.history.specs.Grow.{asks-now, Asks, raised, stood, Votes, gave, with-leaders, winner, longer, moved}
 use Rattle.history.specs.Later.{Later, later-self, later-trans, raised-later, asks-later, gives-later, adds-later, accepts-later}
 use Rattle.history.specs.Steps.{asks, gives, wins, adds, accepts}
-use Rattle.history.specs.Told.{Tells, hands-later, tells-later}
-use Rattle.safety.specs.Carried.{Standing, Leading, Kept}
+use Rattle.history.specs.Told.{hands-later, vote-later}
+use Rattle.safety.specs.Carried.{AsCandidate, AsLeader, Kept}
 
 -- No other box has moved, voted or won, and the logs of the terms that others won are as they were.
 pub record Grown (i : ℕ) (h more : History) : Type 0 where
@@ -149,20 +149,19 @@ adds-grown {members} {h} c e small f start own new =
 
 module _ {h more : History} {s : State} (small : s .members < 128) (f : Facts (s .members) h) (l : Later h more) where
   -- a candidate, where it has won nothing
-  pub standing-later : ((start : List Entry) → more .leaders .won (s .term) (s .me) start → h .leaders .won (s .term) (s .me) start)
-      → Standing h s → Standing more s
-  unfolding Tells
-  standing-later same o =
+  pub candidate-later : ((start : List Entry) → more .leaders .won (s .term) (s .me) start → h .leaders .won (s .term) (s .me) start)
+      → AsCandidate h s → AsCandidate more s
+  candidate-later same o =
       record {
         asked = l .asked (s .term) (s .me) (s .log) (o .asked);
         unwon = λ start w. o .unwon start (same start w);
-        votes = λ j m v. tells-later small f l (vote-answer j (s .me) (s .term) 1) (λ e. o .votes j m v) refl;
+        votes = λ j m v. vote-later small f l (o .votes j m v);
       }
 
   -- a leader, where its term's log is as it was
-  pub leading-later : ((start : List Entry) → h .leaders .won (s .term) (s .me) start → more .leaders .log (s .term) ≡ h .leaders .log (s .term))
-      → Leading h s → Leading more s
-  leading-later same o =
+  pub leader-later : ((start : List Entry) → h .leaders .won (s .term) (s .me) start → more .leaders .log (s .term) ≡ h .leaders .log (s .term))
+      → AsLeader h s → AsLeader more s
+  leader-later same o =
       record {
         start = o .start;
         won = l .leaders .won (s .term) (s .me) (o .start) (o .won);
@@ -179,6 +178,6 @@ kept-aside s small f g n o =
       log = g .log (s .me) n ∙ o .log;
       vote = λ d v. o .vote d (g .voted (s .me) (s .term) d n v);
       hands = hands-later small f (g .later) (o .hands);
-      stands = λ r. standing-later small f (g .later) (λ start w. g .won (s .term) (s .me) start n w) (o .stands r);
-      leads = λ r. leading-later small f (g .later) (λ start w. g .logs (s .term) (s .me) start n w) (o .leads r);
+      stands = λ r. candidate-later small f (g .later) (λ start w. g .won (s .term) (s .me) start n w) (o .stands r);
+      leads = λ r. leader-later small f (g .later) (λ start w. g .logs (s .term) (s .me) start n w) (o .leads r);
     }

@@ -1,5 +1,4 @@
--- Where what a box hands out comes from, behind each move: it leads; or it is what the box handed out before, nothing, or a beginning of what an
--- append that was sent carried. Assumes nothing.
+-- Where what a box hands out comes from, behind each move, and that what its appends carry is what it hands out. Assumes nothing.
 use Prim.Native.Nat.{ℕ, _+_, _≤_, max, min}
 use native.Mathlib.Decide.{decLe}
 use native.Mathlib.Omega.{arith}
@@ -9,9 +8,11 @@ use mathlib.Core.List.{List}
 use lib.ListN.{length, take}
 use lib.Seq.{take-take, length-take-le}
 use Rattle.frames.specs.declared.Entry.{Entry}
-use Rattle.frames.specs.Message.{Message, append}
+use Rattle.frames.specs.Message.{Message, vote-request, vote-answer, append, append-answer}
 use Rattle.raft.specs.Record.{State, leader, handed-out}
 use Rattle.raft.specs.Commit.{settle}
+use Rattle.raft.specs.Sends.{appends}
+use Rattle.raft.specs.SendLaws.{All, vote-requests-all, appends-all}
 use Rattle.raft.specs.Step.{standing, leading, ordered}
 use Rattle.raft.specs.Receive.{taken, voting, adding, lacks, joined, following, commit-after, joining, heard}
 use Rattle.raft.specs.ReceiveLaws.{taken-keeps, Looks}
@@ -21,10 +22,11 @@ use Rattle.history.specs.Descent.{won-descends}
 use Rattle.history.specs.Join.{Joins, offered-long, joins-first, joined-joins}
 use Rattle.history.specs.Handed.{joins-handed}
 use Rattle.history.specs.Told.{Sending, Tells, sending-won}
-use Rattle.safety.specs.Turn.{Sent}
+use Rattle.safety.specs.Sent.{Sent}
 use Rattle.safety.specs.Endings.{Came, Ending, rests, stands, leads-alone, takes-up, prompts, takes, votes, votes-not, wins, counts, declines, wants, joins, hears, hears-again}
 use Rattle.safety.specs.Next.{Known, known-small}
 
+-- It leads; or it is what the box handed out before, or a beginning of what an append that was sent carried.
 pub data HandsOut (sent : List (List ℕ)) (h : History) (s t : State) : Type 0 where
   leads : t .role ≡ leader → HandsOut sent h s t
   same : handed-out t ≡ handed-out s → HandsOut sent h s t
@@ -98,3 +100,42 @@ ending-hands {s = s} k told (wants from term) = same (taken-same-hands term s)
 ending-hands k told (joins from to term index prior commit es c look has) = joins-hands-out k told from to term index prior commit es c look has
 ending-hands k told (hears from to term reply index c n) = leads (n .leads)
 ending-hands k told (hears-again from to term reply index c n) = leads (n .leads)
+
+-- ---- what its appends carry
+
+-- An append of a box that leads, in its term, with its commit.
+pub record FromLeader (t : State) (term commit : ℕ) : Type 0 where
+  pub leads : t .role ≡ leader
+  pub now : term ≡ t .term
+  pub known : commit ≡ t .commit
+
+-- A message that a box has just sent, where it is an append, is such a one.
+unfoldable pub IfAppend : State → Message → Type 0
+IfAppend t (vote-request from to term index prior) = Unit {0}
+IfAppend t (vote-answer from to term reply) = Unit {0}
+IfAppend t (append from to term index prior commit es) = FromLeader t term commit
+IfAppend t (append-answer from to term reply index) = Unit {0}
+
+-- All appends of a box that leads are.
+appends-led : (t : State) → t .role ≡ leader → All (IfAppend t) (appends t)
+unfolding IfAppend
+appends-led t r = appends-all (IfAppend t) t (λ i l m o. record { leads = r; now = refl; known = refl })
+
+-- **Each ending sends so.**
+pub ending-appends : {sent : List (List ℕ)} {s t : State} {ms : List Message} → Ending sent s t ms → All (IfAppend t) ms
+unfolding All IfAppend leading ordered settle heard
+ending-appends rests = tt
+ending-appends {t = t} stands = vote-requests-all (IfAppend t) t (λ i l m o. tt)
+ending-appends {t = t} (leads-alone most) = appends-led t refl
+ending-appends {t = t} (takes-up r room o) = appends-led t r
+ending-appends {t = t} (prompts r) = appends-led t r
+ending-appends (takes term) = tt
+ending-appends (votes from to term index prior c g) = (tt, tt)
+ending-appends (votes-not from term) = (tt, tt)
+ending-appends {t = t} (wins from to term reply c n most) = appends-led t refl
+ending-appends (counts from to term reply c n) = tt
+ending-appends (declines from) = (tt, tt)
+ending-appends (wants from term) = (tt, tt)
+ending-appends (joins from to term index prior commit es c look has) = (tt, tt)
+ending-appends (hears from to term reply index c n) = tt
+ending-appends (hears-again from to term reply index c n) = (record { leads = n .leads; now = refl; known = refl }, tt)

@@ -1,37 +1,40 @@
--- Demand 3: the runs of a park over the boxes' own steps; what a move may change, one leader a term and alarm 6 from that alone; the run with
--- disks; then the history that is carried along a run, the one book, and demand 3 itself (Demand3).
+-- Demand 3. The pages that are signed: Park (a run of records), Disks (a run with the bytes on the disks), Runs (both under one name, and the book)
+-- and Demand3 (what is claimed of every run, and that it holds). The rest is proof, in the order in which it is read:
+-- Carried, what ties a park to its history (crate `history`); Sent to CarriedRun, that it is carried along every run: what is sent and kept in any
+-- case (Sent, Proper), how a move may end (Endings), and that each ending keeps what is carried (Grown to Carry);
+-- OneLeader to NoAlarms, what follows for the boxes of a park; HandsOut to BookRun, that what is handed out is in the book;
+-- DisksLaws to BookSite, the same over disks, and that each telling has the other's runs, record for record (DisksLaws, ParkOnDisk).
+-- Last, runs that are shown: a leader (Elects), an order that is committed and handed out (Commits), a second leader (Succeeds), and what would
+-- happen if a torn step's messages left (Leaks). They also show false what three of the must-fail edits claim.
 pub mod Park
-pub mod Turn
-pub mod ActLaws
-pub mod TurnLaws
-pub mod Agreement
-pub mod History
-pub mod HistoryLaws
-pub mod Votes
-pub mod Winners
-pub mod OneLeader
-pub mod Alarms
-pub mod NoAlarm
-pub mod Elects
-pub mod Commits
 pub mod Disks
-pub mod DisksLaws
-pub mod Endings
+pub mod Runs
+pub mod Demand3
 pub mod Carried
+pub mod Sent
+pub mod Proper
+pub mod Endings
 pub mod Grown
 pub mod Next
+pub mod Masks
 pub mod CarryStands
 pub mod CarryVotes
 pub mod CarryLeads
 pub mod CarryJoins
 pub mod Carry
 pub mod CarriedRun
+pub mod OneLeader
 pub mod OneBook
+pub mod Alarms
 pub mod NoAlarms
-pub mod OnDisk
-pub mod Runs
 pub mod HandsOut
 pub mod Booked
 pub mod BookRun
+pub mod DisksLaws
+pub mod ParkOnDisk
+pub mod OnDisk
 pub mod BookSite
-pub mod Demand3
+pub mod Elects
+pub mod Commits
+pub mod Succeeds
+pub mod Leaks

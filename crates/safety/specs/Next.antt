@@ -15,7 +15,8 @@ use Rattle.raft.specs.ReceiveLaws.{taken-higher, taken-same, good-taking}
 use Rattle.journal.specs.Opening.{stored, restarted}
 use Rattle.history.specs.History.{History, Facts}
 use Rattle.history.specs.Handed.{hands-nothing, hands-higher}
-use Rattle.history.specs.Grow.{put-same, raised}
+use Rattle.history.specs.Put.{put-same}
+use Rattle.history.specs.Grow.{raised}
 use Rattle.history.specs.GrowVotes.{raised-facts}
 use Rattle.history.specs.Later.{Later, later-self, raised-later}
 use Rattle.history.specs.Told.{Tells, hands-later}
@@ -50,11 +51,12 @@ pub next-same : {h : History} {s t : State} {ms : List Message} → Known h s �
     → Next (s .members) (s .me) h t ms
 next-same {h} {s} k o a = record { history = h; facts = k .facts; grown = grown-self (s .me) h; kept = o; tells = a }
 
--- A no tells nothing.
+-- A no to a vote request tells nothing,
 pub vote-no-tells : (mask : ℕ) (h : History) (t : State) (to : ℕ) → All (Tells mask h) (vote-answer-to t to false ∷ [])
 unfolding All Tells
 vote-no-tells mask h t to = (λ e. absurd (omega arith), tt)
 
+-- nor does a no to an append
 pub append-no-tells : (mask : ℕ) (h : History) (t : State) (to : ℕ) → All (Tells mask h) (append-answer-to t to 0 false ∷ [])
 unfolding All Tells
 append-no-tells mask h t to = (λ e. absurd (omega arith), tt)

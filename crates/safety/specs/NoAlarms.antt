@@ -1,38 +1,27 @@
--- Demand 3: "Alarms 6, 7 and 8 never sound": 7, because a leader's log begins with what the box hands out; 8, because what was acknowledged is in
--- the leader's log. (6 is in NoAlarm.) Assumes nothing.
+-- Demand 3: "Alarms 6, 7 and 8 never sound": 6, because no term has two leaders; 7, because a leader's log begins with what the box hands out; 8,
+-- because what was acknowledged is in the leader's log. Assumes nothing.
 use Prim.Native.Nat.{ℕ, _<_}
-use native.Mathlib.Decide.{decLt}
 use native.Mathlib.Omega.{arith}
 use mathlib.Core.Path.{_≡_, refl, sym, _∙_}
 use mathlib.Core.Bool.{true, false, true≢false}
-use mathlib.Core.List.{List, List·Memᴰ·not-nil}
+use mathlib.Core.List.{List}
 use borrow.Author.Tests.{lt-ltb}
 use Rattle.frames.specs.declared.Entry.{Entry}
-use Rattle.frames.specs.Message.{Message, append, append-answer}
+use Rattle.frames.specs.Message.{append, append-answer}
 use Rattle.raft.specs.Record.{leader, last-index}
 use Rattle.raft.specs.Step.{refuse}
-use Rattle.raft.specs.Receive.{taking, taken, lacks, cuts-committed}
-use Rattle.raft.specs.ReceiveLaws.{taken-by, taken-term, Looks}
+use Rattle.raft.specs.Receive.{taking, taken, lacks, cuts-committed, sender}
+use Rattle.raft.specs.ReceiveLaws.{taken-by, taken-term, Looks, other-held}
 use Rattle.history.specs.History.{History}
 use Rattle.history.specs.Handed.{Hands, hands-higher}
 use Rattle.history.specs.Told.{Tells}
-use Rattle.history.specs.Alarms.{no-loss, no-excess}
+use Rattle.history.specs.Alarms.{no-rival, no-loss, no-excess}
 use Rattle.safety.specs.Park.{Park, start, Event, outcome, Reached}
-use Rattle.safety.specs.Turn.{Sent}
+use Rattle.safety.specs.Sent.{Sent}
 use Rattle.safety.specs.Alarms.{Alarm, two-lead, cuts, past, quiet, event-alarms}
-use Rattle.safety.specs.NoAlarm.{no-alarm-6}
+use Rattle.safety.specs.Proper.{reached-proper, sent-small}
 use Rattle.safety.specs.Carried.{Carried}
-use Rattle.safety.specs.CarriedRun.{reached-proper, reached-carried}
-use Rattle.safety.specs.OneBook.{no-member}
-
--- Where something was sent, a member has moved.
-pub sent-small : (mask : ℕ) (p : Park) → Reached mask p → (m : Message) → Sent (p .sent) m → mask < 128
-unfolding start
-sent-small mask p r m s = go (decLt mask 128)
-  where
-    go : Dec (mask < 128) → mask < 128
-    go (yes small) = small
-    go (no n) = let e = no-member mask n r in absurd (List·Memᴰ·not-nil (rw e at (s .there)))
+use Rattle.safety.specs.CarriedRun.{reached-carried}
 
 module _ (mask : ℕ) {h : History} {p : Park} (r : Reached mask p) (c : Carried mask h p) (i : ℕ) where
   -- what a box hands out, a message's term being taken
@@ -42,7 +31,15 @@ module _ (mask : ℕ) {h : History} {p : Park} (r : Reached mask p) (c : Carried
       let x = rw (reached-proper mask p r i .ours) at (c .kept i .hands) in
       taken-by (λ t. Hands mask h (t .term) (t .log) (t .commit)) term (p .box i) (λ l. hands-higher x term (omega arith)) (λ l. x)
 
-  -- An append that was sent cuts nothing that is committed,
+  -- An append that was sent to a box of its term that leads would be the box's own,
+  rivals-none : (from to index prior commit : ℕ) (es : List Entry) → Sent (p .sent) (append from to (p .box i .term) index prior commit es)
+      → p .box i .role ≡ leader → from ≡ p .box i .me
+  unfolding Tells
+  rivals-none from to index prior commit es s l =
+      let x = c .kept i .leads l in
+      no-rival (sent-small mask p r _ s) (c .facts) (c .tells _ s) (p .box i .me) (x .start) (x .won)
+
+  -- an append that was sent cuts nothing that is committed,
   cuts-nothing : (from to term index prior commit : ℕ) (es : List Entry) → Sent (p .sent) (append from to term index prior commit es)
       → Looks (p .box i) term → lacks (taken term (p .box i) .log) index prior ≡ false → cuts-committed (taken term (p .box i)) index es ≡ false
   unfolding Tells
@@ -61,10 +58,13 @@ module _ (mask : ℕ) {h : History} {p : Park} (r : Reached mask p) (c : Carried
 -- **Alarms 6, 7 and 8 never sound,** at any event of any box at any moment of a run.
 pub no-alarm : (mask : ℕ) (p : Park) → Reached mask p → (i : ℕ) (e : Event (p .sent)) (n : ℕ) → outcome e (p .box i) ≡ refuse n
     → (n ≡ 6 → ⊥) × (n ≡ 7 → ⊥) × (n ≡ 8 → ⊥)
+unfolding sender
 no-alarm mask p r i e n o = go (event-alarms (p .sent) (p .box i) e n o)
   where
     go : Alarm (p .sent) (p .box i) n → (n ≡ 6 → ⊥) × (n ≡ 7 → ⊥) × (n ≡ 8 → ⊥)
-    go (two-lead six from to term index prior commit es a s t l) = absurd (no-alarm-6 mask p r i e (rw six at o))
+    go (two-lead six from to term index prior commit es a s t l) =
+        absurd (other-held (p .box i .me) (p .box i .members) from (a .other) .0
+        (rivals-none mask r (reached-carried mask p r .carried) i from to index prior commit es (rw t s) l))
     go (cuts seven from to term index prior commit es a s look has y) =
         absurd (true≢false (sym y ∙ cuts-nothing mask r (reached-carried mask p r .carried) i from to term index prior commit es s look has))
     go (past eight from to term index a s t l x) =

@@ -3,43 +3,26 @@
 use Prim.Native.Nat.{ℕ, _≤_, _<_}
 use native.Mathlib.Decide.{decLt}
 use native.Mathlib.Omega.{arith}
-use mathlib.Core.Path.{_≡_, refl}
+use mathlib.Core.Path.{_≡_}
 use mathlib.Core.List.{List}
 use mathlib.Core.Logic.{_⊎_, inl}
 use Rattle.frames.specs.declared.Entry.{Entry}
 use Rattle.raft.specs.Record.{fresh, handed-out}
-use Rattle.raft.specs.RecordLaws.{member-facts}
 use Rattle.history.specs.Begins.{Begins, nothing-begins, begins-trans}
 use Rattle.history.specs.History.{History, Won}
 use Rattle.history.specs.LeaderComplete.{leader-complete}
 use Rattle.history.specs.Book.{Covered, nothing, written, sender-holds, one-book}
 use Rattle.history.specs.Steps.{fresh-park}
 use Rattle.history.specs.Later.{covered-later}
-use Rattle.safety.specs.Park.{Park, start, steps, restarts, Run, stays, moves, run-both, Reached, Leads}
+use Rattle.safety.specs.Park.{Park, start, Run, run-both, Reached, Leads}
+use Rattle.safety.specs.Proper.{reached-proper, no-member, leads-small}
 use Rattle.safety.specs.Carried.{Carried}
-use Rattle.safety.specs.CarriedRun.{Onward, reached-proper, run-carried, reached-carried}
-
--- ---- a membership that is no mask
-
--- Where no number is a member's, nothing moves.
-pub no-member : (mask : ℕ) → (mask < 128 → ⊥) → {p : Park} → Reached mask p → p ≡ start mask
-no-member mask n stays = refl
-no-member mask n (moves u (steps i m e t ms o)) = absurd (n (member-facts i mask m .mask))
-no-member mask n (moves u (restarts i m)) = absurd (n (member-facts i mask m .mask))
-
--- A box that leads has moved.
-pub leads-small : (mask : ℕ) (p : Park) → Reached mask p → (i term : ℕ) → Leads (p .box i) term → mask < 128
-unfolding start fresh
-leads-small mask p r i term l = go (decLt mask 128)
-  where
-    go : Dec (mask < 128) → mask < 128
-    go (yes s) = s
-    go (no n) = let e = no-member mask n r in absurd (omega (arith, rw e at (l .role)))
+use Rattle.safety.specs.CarriedRun.{Onward, run-carried, reached-carried}
 
 -- ---- the boxes and the history
 
 -- A term was won, and this is its log.
-pub record Led (h : History) (term : ℕ) (log : List Entry) : Type 0 where
+pub record TermLog (h : History) (term : ℕ) (log : List Entry) : Type 0 where
   pub won : Won (h .leaders) term
   pub same : h .leaders .log term ≡ log
 
@@ -50,7 +33,7 @@ module _ (mask : ℕ) {h : History} {p : Park} (r : Reached mask p) (c : Carried
   box-covered i = rw (reached-proper mask p r i .ours) at (c .kept i .hands .covered)
 
   -- and a box that leads has won its term, of which its log is the log.
-  pub box-leads : (i term : ℕ) → Leads (p .box i) term → Led h term (p .box i .log)
+  pub box-leads : (i term : ℕ) → Leads (p .box i) term → TermLog h term (p .box i .log)
   box-leads i term l =
       let x = c .kept i .leads (l .role) in
       rw (← l .in-term) (record { won = record { box = p .box i .me; start = x .start; has = x .won }; same = x .log })

@@ -1,14 +1,14 @@
 -- Demand 3's run: a park of boxes, over the steps of demand 2 and the restarts of the journal. Assumes nothing.
 use Prim.Native.Nat.{ℕ, _<_}
 use mathlib.Core.Path.{_≡_}
-use mathlib.Core.Bool.{true, cond}
+use mathlib.Core.Bool.{true}
 use mathlib.Core.List.{List, [], _∷_, _++_, List·Memᴰ}
-use lib.Dec.{eqb}
 use Rattle.frames.specs.Message.{Message, text}
 use Rattle.raft.specs.Record.{State, leader, fresh, is-membership}
 use Rattle.raft.specs.Step.{Outcome, done, timeout, order, prompt}
 use Rattle.raft.specs.Receive.{receive}
 use Rattle.journal.specs.Opening.{restarted}
+use Rattle.history.specs.Put.{put}
 
 -- A park: the record of each box, by its number, and the bytes of every frame that was ever sent.
 pub record Park : Type 0 where
@@ -39,16 +39,12 @@ outcome (receives bytes m) s = receive bytes s
 
 -- ---- what becomes of the park
 
--- What each box has, box i's replaced.
-unfoldable pub put : {A : Type 0} → (ℕ → A) → ℕ → A → ℕ → A
-put box i t j = cond (eqb j i) t (box j)
-
 -- The bytes of messages, one frame each.
 unfoldable pub frames : List Message → List (List ℕ)
 frames [] = []
 frames (m ∷ ms) = text m ∷ frames ms
 
--- Box i has come to a record, and its messages have left.
+-- Box i has come to a record, and its messages have left. (`put`: what each box has, box i's replaced.)
 unfoldable pub after : Park → ℕ → State → List Message → Park
 after p i t messages = record { box = put (p .box) i t; sent = frames messages ++ p .sent }
 

@@ -5,7 +5,7 @@ use lib.ListN.{length-append}
 use Rattle.digits.specs.RoomLaws.{over-nothing}
 use Rattle.frames.specs.WritingLaws.{stored-one}
 use Rattle.console.specs.TextLaws.{put-behind, decimal-none, decimal-one, decimal-more}
-use Prim.Native.Nat.{ℕ}
+use Prim.Native.Nat.{ℕ, _<_}
 use borrow.Fn.Kinds.{In}
 use borrow.Fn.PlainCycle.{Measures, is, falls, and}
 use Rattle.console.proofs.text.put_decimal.Reads as put-decimal
