@@ -4,6 +4,7 @@ ghost use Prim.Native.Nat.{_+_, _-_, _≤_};
 ghost use mathlib.Core.Path.{_≡_};
 ghost use lib.ListN.{length, take, drop};
 ghost use Rattle.digits.specs.Room.{over};
+ghost use Rattle.opening.specs.Calls.{first-line};
 ghost use Rattle.reader.specs.Blocks.{shortened};
 
 // Reads what there is behind what the block holds, and answers what it holds then: the same as before where the input has ended, or where the block is full.
@@ -57,6 +58,7 @@ pub fn whole_line(block: &mut [u8], filled: usize) -> Line
     requires { ⌜ filled ≤ length (now block) ⌝ }
     ensures { λ r. ⌜ r .end ≤ r .held ⌝ }
     ensures { λ r. ⌜ r .held ≤ length (now (block .entry)) ⌝ }
+    ensures { λ r. ⌜ r .end ≡ first-line (take (r .held) (now (block .exit))) ⌝ }
 {
     let mut held = filled;
     let mut turns = u64::MAX;

@@ -20,7 +20,7 @@ slice-reshare-prefix-begin c = search needs
 slice-aggregate-begin : tie.Need-slice-aggregate-begin
 slice-aggregate-begin c =
     let whole-line = c .before .before .before .before .before .whole-line in
-    simp length-take (omega (arith, whole-line .ensures .0, whole-line .ensures .1, whole-line .kept .0))
+    simp length-take (omega (arith, whole-line .ensures .0, whole-line .ensures .1 .0, whole-line .kept .0))
 
 begin-requires : tie.Need-begin-requires
 begin-requires c κs = search needs

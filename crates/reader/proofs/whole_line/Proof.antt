@@ -2,8 +2,9 @@
 use borrow.Author.Needs.{needs}
 use native.Mathlib.Omega.{arith}
 use Prim.Native.Nat.{_≤_}
-use mathlib.Core.Path.{_≡_}
+use mathlib.Core.Path.{_≡_, refl}
 use lib.ListN.{length, take, length-take}
+use Rattle.opening.specs.Calls.{first-line}
 use Rattle.opening.specs.CodeLaws.{first-most}
 use Rattle.reader.proofs.whole_line.Statement.{statement}
 use Rattle.reader.proofs.whole_line.Tie as tie
@@ -56,13 +57,15 @@ same-length-2 : tie.Need-same-length-2 Inv-loop μ-loop
 same-length-2 c = search needs
 
 returns-2 : tie.Need-returns-2 Inv-loop μ-loop
-returns-2 c = search needs
+unfolding first-line
+returns-2 c = (omega arith, (omega arith, refl))
 
 same-length-3 : tie.Need-same-length-3 Inv-loop μ-loop
 same-length-3 c = search needs
 
 returns-3 : tie.Need-returns-3 Inv-loop μ-loop
-returns-3 c = search needs
+unfolding first-line
+returns-3 c = (omega arith, (omega arith, refl))
 
 pub whole-line-spec : {M : Type 1} → statement M
 whole-line-spec =

@@ -17,7 +17,7 @@ slice-reshare-prefix-replay-head c = search needs
 slice-aggregate-replay-head : tie.Need-slice-aggregate-replay-head
 slice-aggregate-replay-head c =
     let whole-line = c .before .before .before .whole-line in
-    simp length-take (omega (arith, whole-line .ensures .0, whole-line .ensures .1, whole-line .kept .0))
+    simp length-take (omega (arith, whole-line .ensures .0, whole-line .ensures .1 .0, whole-line .kept .0))
 
 replay-head-requires : tie.Need-replay-head-requires
 replay-head-requires c κs = search needs
@@ -40,7 +40,7 @@ later-lines-requires c κs =
     let whole-line = c .before .before .before .before .before .before .before .before .before .before .before .before .before .before .whole-line in
     let replay-head = c .before .before .before .before .before .before .before .before .before .before .replay-head in
     let entered = c .before .before .before .before .before .before .before .before .before .before .before .before .before .before .before .before .before .before in
-    (omega (arith, keep .ensures .0, keep .kept .0, whole-line .ensures .1, whole-line .kept .0), omega (arith, ap (λ (r : Replayed). r .node .last) (replay-head .ensures), heading-fits (entered .args .me) (take (whole-line .result .end) (whole-line .last .0))))
+    (omega (arith, keep .ensures .0, keep .kept .0, whole-line .ensures .1 .0, whole-line .kept .0), omega (arith, ap (λ (r : Replayed). r .node .last) (replay-head .ensures), heading-fits (entered .args .me) (take (whole-line .result .end) (whole-line .last .0))))
 
 bad-line-requires : tie.Need-bad-line-requires
 bad-line-requires c κs = search needs

@@ -14,7 +14,7 @@ slice-reshare-prefix-asked c = search needs
 slice-aggregate-asked : tie.Need-slice-aggregate-asked
 slice-aggregate-asked c =
     let whole-line = c .before .before .before .whole-line in
-    simp length-take (omega (arith, whole-line .ensures .0, whole-line .ensures .1, whole-line .kept .0))
+    simp length-take (omega (arith, whole-line .ensures .0, whole-line .ensures .1 .0, whole-line .kept .0))
 
 asked-requires : tie.Need-asked-requires
 asked-requires c κs = search needs
