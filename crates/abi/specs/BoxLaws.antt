@@ -7,15 +7,15 @@ use mathlib.Core.List.{List}
 use lib.Dec.{eqb, leb}
 use lib.ListN.{length}
 use borrow.Author.Tests.{eq-eqb, ne-eqb}
-use Rattle.node.specs.declared.Node.{Node}
-use Rattle.node.specs.declared.Step.{Step}
-use Rattle.node.specs.declared.Started.{Started}
-use Rattle.node.specs.declared.Handed.{Handed}
+use Rattle.record.specs.declared.Node.{Node}
+use Rattle.record.specs.declared.Step.{Step}
+use Rattle.record.specs.declared.Started.{Started}
+use Rattle.record.specs.declared.Handed.{Handed}
 use Rattle.raft.specs.Record.{State, is-membership}
-use Rattle.raft.specs.Step.{Outcome}
+use Rattle.raft.specs.Outcome.{Outcome}
 use Rattle.raft.specs.Journal.{head}
-use Rattle.node.specs.Calls.{Called, call, Begun, begun, handed}
-use Rattle.node.specs.EventLaws.{head-long}
+use Rattle.record.specs.Calls.{Called, call, Begun, begun, handed}
+use Rattle.record.specs.EventLaws.{head-long}
 use Rattle.abi.specs.Boxes.{box-range, box-in, box-flat, sized-by, BoxFlat, box-event, StartFlat, box-begun, HandedFlat, box-handed}
 
 module _ (event : State → Outcome) (n terms orders journal room sizes : List ℕ) where

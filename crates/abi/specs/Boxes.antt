@@ -4,13 +4,13 @@ use mathlib.Core.Bool.{Bool, cond, _&&_}
 use mathlib.Core.List.{List, [], _∷_}
 use lib.Dec.{eqb, ltb}
 use lib.ListN.{getD, set}
-use Rattle.node.specs.declared.Node.{Node}
-use Rattle.node.specs.declared.Step.{Step}
-use Rattle.node.specs.declared.Started.{Started}
-use Rattle.node.specs.declared.Handed.{Handed}
+use Rattle.record.specs.declared.Node.{Node}
+use Rattle.record.specs.declared.Step.{Step}
+use Rattle.record.specs.declared.Started.{Started}
+use Rattle.record.specs.declared.Handed.{Handed}
 use Rattle.raft.specs.Record.{State}
-use Rattle.raft.specs.Step.{Outcome}
-use Rattle.node.specs.Calls.{Called, call, Begun, begun, handed}
+use Rattle.raft.specs.Outcome.{Outcome}
+use Rattle.record.specs.Calls.{Called, call, Begun, begun, handed}
 
 -- Each number fits the field that it is for.
 abbrev pub small : List ℕ → ℕ → Bool

@@ -5,7 +5,7 @@ use mathlib.Core.Bool.{Bool, true, false, cond}
 use mathlib.Core.List.{List}
 use lib.Dec.{eqb}
 use lib.ListN.{set}
-use Rattle.node.specs.declared.Node.{Node}
+use Rattle.record.specs.declared.Node.{Node}
 use Rattle.opening.specs.declared.Opened.{Opened}
 use Rattle.opening.specs.declared.Replayed.{Replayed}
 use Rattle.opening.specs.Calls.{Replaying, replaying, Opens, opens}

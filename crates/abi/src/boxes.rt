@@ -1,12 +1,13 @@
 // A box for C and Rust, as 22 numbers: me, members, term, vote, last, commit, role, votes, then next and then match of the seven boxes.
-use node::Node;
-use node::Step;
+use record::Node;
+use record::Step;
 ghost use mathlib.Core.Path.{_≡_};
 ghost use mathlib.Core.Bool.{cond};
 ghost use Prim.Native.Nat.{_≤_};
 ghost use lib.Dec.{eqb};
-ghost use Rattle.raft.specs.Step.{timeout, prompt};
-ghost use Rattle.raft.specs.Step.{order as ordering};
+ghost use Rattle.raft.specs.Timeout.{timeout};
+ghost use Rattle.raft.specs.Prompt.{prompt};
+ghost use Rattle.raft.specs.Order.{order as ordering};
 ghost use Rattle.raft.specs.Receive.{receive as receiving};
 ghost use Rattle.abi.specs.Boxes.{box-range, box-in, stored-7, box-flat, sized-by, BoxFlat, box-event, StartFlat, box-begun, HandedFlat, box-handed};
 
@@ -144,7 +145,7 @@ pub extern "C" fn box_timeout(
         return 12;
     }
     let b = box_in(n);
-    let step = b.timeout(terms, orders, journal, room);
+    let step = node::timeout(b, terms, orders, journal, room);
     put_step(n, sizes, step)
 }
 
@@ -163,7 +164,7 @@ pub extern "C" fn box_prompt(
         return 12;
     }
     let b = box_in(n);
-    let step = b.prompt(terms, orders, journal, room);
+    let step = node::prompt(b, terms, orders, journal, room);
     put_step(n, sizes, step)
 }
 
@@ -183,7 +184,7 @@ pub extern "C" fn box_order(
         return 12;
     }
     let b = box_in(n);
-    let step = b.order(order, terms, orders, journal, room);
+    let step = node::order(b, order, terms, orders, journal, room);
     put_step(n, sizes, step)
 }
 
@@ -203,7 +204,7 @@ pub extern "C" fn box_receive(
         return 12;
     }
     let b = box_in(n);
-    let step = b.receive(text, terms, orders, journal, room);
+    let step = node::receive(b, text, terms, orders, journal, room);
     put_step(n, sizes, step)
 }
 
@@ -212,7 +213,7 @@ pub extern "C" fn box_receive(
 pub extern "C" fn box_start(me: u8, mask: u8, n: &mut [u64; 22], room: &mut [u8]) -> u64
     ensures { λ r. ⌜ _≡_ {A = StartFlat} (record { answer = r; numbers = now (n .exit); room = now (room .exit) }) (box-begun me mask (now (n .entry)) (now (room .entry))) ⌝ }
 {
-    let started = Node::start(me, mask, room);
+    let started = node::start(me, mask, room);
     let refusal = started.refusal;
     if refusal == 0 {
         let b = started.node;
@@ -235,7 +236,7 @@ pub extern "C" fn box_handed_out(
         return 12;
     }
     let b = box_in(n);
-    let handed = b.handed_out(terms, orders);
+    let handed = node::handed_out(b, terms, orders);
     let refusal = handed.refusal;
     if refusal == 0 {
         *count = handed.count as u64;

@@ -99,12 +99,12 @@ fn fields_in(n: &[u64; 17]) -> Fields
     }
 }
 
-// frames::read: 0 and the 17 numbers, or 1 and the numbers as they were.
+// frame_reader::read: 0 and the 17 numbers, or 1 and the numbers as they were.
 #[no_mangle]
 pub extern "C" fn frame_read(text: &[u8], numbers: &mut [u64; 17]) -> u8
     ensures { λ r. ⌜ _≡_ {A = ReadFlat} (record { refusal = r; numbers = now (numbers .exit) }) (read-flat (now (text .entry)) (now (numbers .entry))) ⌝ }
 {
-    let parsed = frames::read(text);
+    let parsed = frame_reader::read(text);
     let refusal = parsed.refusal;
     if refusal == 0 {
         let f = parsed.fields;
@@ -114,7 +114,7 @@ pub extern "C" fn frame_read(text: &[u8], numbers: &mut [u64; 17]) -> u8
     1
 }
 
-// frames::write of the fields that the numbers are: 0, 1 or 5.
+// frame_writer::write of the fields that the numbers are: 0, 1 or 5.
 #[no_mangle]
 pub extern "C" fn frame_write(numbers: &[u64; 17], room: &mut [u8]) -> u8
     ensures { λ r. ⌜ _≡_ {A = WroteFlat} (record { refusal = r; room = now (room .exit) }) (write-flat (now (numbers .entry)) (now (room .entry))) ⌝ }
@@ -123,6 +123,6 @@ pub extern "C" fn frame_write(numbers: &[u64; 17], room: &mut [u8]) -> u8
         return 1;
     }
     let f = fields_in(numbers);
-    let written = frames::write(room, f);
+    let written = frame_writer::write(room, f);
     written.refusal
 }

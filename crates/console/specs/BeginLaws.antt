@@ -16,11 +16,11 @@ use Rattle.raft.specs.Record.{is-membership, fresh}
 use Rattle.raft.specs.Journal.{head}
 use Rattle.journal.specs.Lines.{box-in, mask-in, head-shaped}
 use Rattle.journal.specs.Opening.{is-head}
-use Rattle.node.specs.declared.Node.{Node}
-use Rattle.node.specs.declared.Started.{Started}
-use Rattle.node.specs.Calls.{node-of, begun}
-use Rattle.node.specs.Calls as calls
-use Rattle.node.specs.EventLaws.{head-long}
+use Rattle.record.specs.declared.Node.{Node}
+use Rattle.record.specs.declared.Started.{Started}
+use Rattle.record.specs.Calls.{node-of, begun}
+use Rattle.record.specs.Calls as calls
+use Rattle.record.specs.EventLaws.{head-long}
 use Rattle.console.specs.declared.Begun.{Begun}
 use Rattle.console.specs.Session.{refusal-line, is-start}
 use Rattle.console.specs.TextLaws.{refusal-most}

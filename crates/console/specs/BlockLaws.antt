@@ -10,10 +10,10 @@ use borrow.Author.Tests.{eqb-true, eqb-false, ltb-true, ltb-false, leb-true, le-
 use Rattle.raft.specs.Record.{State}
 use Rattle.raft.specs.Sends.{texts}
 use Rattle.raft.specs.Journal.{journaled}
-use Rattle.raft.specs.Step.{Outcome, done, refuse}
+use Rattle.raft.specs.Outcome.{Outcome, done, refuse}
 use Rattle.journal.specs.Lines.{lines}
-use Rattle.node.specs.declared.Node.{Node}
-use Rattle.node.specs.Calls.{state-of}
+use Rattle.record.specs.declared.Node.{Node}
+use Rattle.record.specs.Calls.{state-of}
 use Rattle.opening.specs.Calls.{first-line}
 use Rattle.opening.specs.CodeLaws.{first-most}
 use Rattle.opening.specs.ReplayCode.{lines-end, lines-next}

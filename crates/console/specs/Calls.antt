@@ -8,12 +8,12 @@ use Rattle.digits.specs.Room.{over}
 use Rattle.raft.specs.Record.{fresh}
 use Rattle.raft.specs.Lent.{terms-of, orders-of}
 use Rattle.raft.specs.Journal.{head}
-use Rattle.raft.specs.Step.{Outcome, done, refuse}
+use Rattle.raft.specs.Outcome.{Outcome, done, refuse}
 use Rattle.journal.specs.LongestLaws.{longest-line, longest-messages}
 use Rattle.journal.specs.Lines.{lines, box-in, mask-in, head-shaped}
-use Rattle.node.specs.declared.Node.{Node}
-use Rattle.node.specs.Calls.{state-of, node-of, begun}
-use Rattle.node.specs.Calls as calls
+use Rattle.record.specs.declared.Node.{Node}
+use Rattle.record.specs.Calls.{state-of, node-of, begun}
+use Rattle.record.specs.Calls as calls
 use Rattle.console.specs.declared.Begun.{Begun}
 use Rattle.console.specs.declared.Answered.{Answered}
 use Rattle.console.specs.declared.Taken.{Taken}

@@ -14,12 +14,12 @@ use Rattle.raft.specs.Record.{State, good}
 use Rattle.raft.specs.RecordLaws.{good-facts}
 use Rattle.raft.specs.Lent.{entries-of, terms-of, orders-of}
 use Rattle.raft.specs.LentLaws.{stored-log}
-use Rattle.raft.specs.Step.{Outcome, done, refuse}
+use Rattle.raft.specs.Outcome.{Outcome, done, refuse}
 use Rattle.raft.specs.StepLaws.{no-done, timeout-good, order-good, prompt-good}
 use Rattle.raft.specs.ReceiveLaws.{receive-good}
-use Rattle.node.specs.declared.Node.{Node}
-use Rattle.node.specs.Calls.{state-of}
-use Rattle.node.specs.RoleLaws.{lent-same}
+use Rattle.record.specs.declared.Node.{Node}
+use Rattle.record.specs.Calls.{state-of}
+use Rattle.record.specs.RoleLaws.{lent-same}
 use Rattle.console.specs.declared.Answered.{Answered}
 use Rattle.console.specs.Session.{event-of, outcome-of}
 use Rattle.console.specs.Calls.{longest, Saying, said, saying}

@@ -12,7 +12,9 @@ use Rattle.digits.specs.Tests.{and-left, and-right}
 use Rattle.frames.specs.Message.{line-feed}
 use Rattle.frames.specs.Reading.{is-line}
 use Rattle.frames.specs.ReadingLaws.{line-run}
-use Rattle.raft.specs.Step.{timeout, order, prompt}
+use Rattle.raft.specs.Timeout.{timeout}
+use Rattle.raft.specs.Order.{order}
+use Rattle.raft.specs.Prompt.{prompt}
 use Rattle.raft.specs.Receive.{receive}
 use Rattle.console.specs.Session.{letter-t, letter-p, letter-o, is-letter, is-order, order-in, event-of}
 

@@ -17,8 +17,8 @@ use Rattle.frames.specs.Message.{entry-fields, spell, line-feed}
 use Rattle.frames.specs.WritingLaws.{length-spell, chars-entries}
 use Rattle.raft.specs.Lent.{entries-of}
 use Rattle.raft.specs.LentLaws.{length-entries-of, entries-more}
-use Rattle.node.specs.declared.Node.{Node}
-use Rattle.node.specs.Calls.{state-of}
+use Rattle.record.specs.declared.Node.{Node}
+use Rattle.record.specs.Calls.{state-of}
 use Rattle.console.specs.Session.{decimal-in, decimal}
 use Rattle.console.specs.Looking.{asks, asked-box, space, numbered, first-shown, entry-shown, log-shown, shown}
 use Rattle.console.specs.TextLaws.{put-behind, decimal-long}

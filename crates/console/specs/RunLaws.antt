@@ -14,8 +14,8 @@ use Rattle.raft.specs.SendLaws.{All}
 use Rattle.journal.specs.Lines.{lines}
 use Rattle.journal.specs.LinesLaws.{Feedless, Whole, strung, Split, split, split-lines, lines-none, lines-first}
 use Rattle.journal.specs.LongestLaws.{longest-message}
-use Rattle.node.specs.declared.Node.{Node}
-use Rattle.node.specs.Calls.{state-of}
+use Rattle.record.specs.declared.Node.{Node}
+use Rattle.record.specs.Calls.{state-of}
 use Rattle.console.specs.Session.{answers, talk, session}
 use Rattle.console.specs.Calls.{longest, Beginning, beginning, Telling, telling}
 use Rattle.console.specs.SessionLaws.{text-of, Told, tell-prints, all-told, shortened-same, too-long-start, session-none, session-begins}

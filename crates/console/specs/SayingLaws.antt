@@ -12,14 +12,17 @@ use Rattle.raft.specs.Record.{State, good}
 use Rattle.raft.specs.Sends.{texts}
 use Rattle.raft.specs.Journal.{journaled}
 use Rattle.raft.specs.Lent.{terms-of, orders-of}
-use Rattle.raft.specs.Step.{Outcome, done, refuse, timeout, order, prompt}
+use Rattle.raft.specs.Outcome.{Outcome, done, refuse}
+use Rattle.raft.specs.Timeout.{timeout}
+use Rattle.raft.specs.Order.{order}
+use Rattle.raft.specs.Prompt.{prompt}
 use Rattle.raft.specs.Receive.{receive}
 use Rattle.raft.specs.StepLaws.{no-done}
 use Rattle.raft.specs.RefusalLaws.{Numbered, numbers, by-test, at-least-one, timeout-numbered, order-numbered, prompt-numbered, receive-numbered}
 use Rattle.journal.specs.LongestLaws.{Longest, timeout-longest, order-longest, prompt-longest, receive-longest}
-use Rattle.node.specs.declared.Node.{Node}
-use Rattle.node.specs.SizeLaws.{over-next}
-use Rattle.node.specs.Calls.{state-of, node-of, Called, untouched, fit, written, run, call}
+use Rattle.record.specs.declared.Node.{Node}
+use Rattle.record.specs.SizeLaws.{over-next}
+use Rattle.record.specs.Calls.{state-of, node-of, Called, untouched, fit, written, run, call}
 use Rattle.console.specs.Session.{letter-t, letter-p, is-letter, is-order, order-in, event-of, outcome-of, refusal-line, printed}
 use Rattle.console.specs.Calls.{longest, Saying, said, saying}
 use Rattle.console.specs.TextLaws.{taken-back}

@@ -10,7 +10,10 @@ use Rattle.frames.specs.Reading.{is-line}
 use Rattle.raft.specs.Record.{State, fresh, good}
 use Rattle.raft.specs.Sends.{texts}
 use Rattle.raft.specs.Journal.{head, journaled}
-use Rattle.raft.specs.Step.{Outcome, done, refuse, timeout, order, prompt}
+use Rattle.raft.specs.Outcome.{Outcome, done, refuse}
+use Rattle.raft.specs.Timeout.{timeout}
+use Rattle.raft.specs.Order.{order}
+use Rattle.raft.specs.Prompt.{prompt}
 use Rattle.raft.specs.Receive.{receive}
 use Rattle.journal.specs.Lines.{lines, box-in, mask-in}
 use Rattle.journal.specs.Opening.{is-head}

@@ -20,14 +20,14 @@ use Rattle.raft.specs.RecordLaws.{good-facts, fresh-good}
 use Rattle.raft.specs.Journal.{head}
 use Rattle.raft.specs.Lent.{entries-of, terms-of, orders-of}
 use Rattle.raft.specs.LentLaws.{terms-long, orders-long}
-use Rattle.raft.specs.Step.{Outcome, done, refuse}
+use Rattle.raft.specs.Outcome.{Outcome, done, refuse}
 use Rattle.raft.specs.Receive.{arrive-read, receive}
 use Rattle.raft.specs.SendLaws.{All}
 use Rattle.journal.specs.Lines.{lines, whole-bytes, box-in, mask-in, head-shaped}
 use Rattle.journal.specs.LinesLaws.{Whole, strung, strung-append, lines-first, lines-whole, whole-lines}
 use Rattle.journal.specs.LongestLaws.{longest-message, text-most}
-use Rattle.node.specs.declared.Node.{Node}
-use Rattle.node.specs.Calls.{state-of}
+use Rattle.record.specs.declared.Node.{Node}
+use Rattle.record.specs.Calls.{state-of}
 use Rattle.console.specs.Session.{letter-t, letter-p, outcome-of, printed, next-of, refusal-line, answers, is-start, talk, session}
 use Rattle.console.specs.Calls.{longest, Beginning, beginning, Saying, said, saying, Telling, told, tell, telling}
 use Rattle.console.specs.LineLaws.{letter-long, order-long, asks-receive}

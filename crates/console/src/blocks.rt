@@ -1,13 +1,13 @@
 // A block of lines, answered one behind the other.
 use crate::Taken;
 use crate::lines::answer_known;
-use node::Node;
+use record::Node;
 ghost use mathlib.Core.Path.{_≡_};
 ghost use Prim.Native.Nat.{_≤_};
 ghost use lib.ListN.{length};
 ghost use Rattle.frames.specs.Limits.{log-limit};
 ghost use Rattle.raft.specs.Record.{good};
-ghost use Rattle.node.specs.Calls.{state-of};
+ghost use Rattle.record.specs.Calls.{state-of};
 ghost use Rattle.console.specs.Calls.{Telling, telling};
 
 // The lines one behind the other, at a record of which it is known whether it is good.
@@ -62,7 +62,7 @@ fn lines_on(n: Node, bytes: &[u8], terms: &mut [u32], orders: &mut [u64], room: 
     ensures { λ r. ⌜ r .taken ≤ length (now (bytes .entry)) ⌝ }
     ensures { λ r. ⌜ r .bytes ≤ length (now (room .entry)) ⌝ }
 {
-    let known = node::is_good(n, &terms[..]);
+    let known = changes::is_good(n, &terms[..]);
     // As in `answer`: room for six appends of four entries.
     let mut messages = [0u8; 786];
     answer_each(n, known, bytes, terms, orders, room, &mut messages)

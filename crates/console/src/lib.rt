@@ -9,7 +9,7 @@ pub use lines::answer;
 pub use lines::begin;
 pub use looking::asked;
 pub use looking::show;
-use node::Node;
+use record::Node;
 
 // The first line's answer: false and nothing done where the room is shorter than the longest answer; whether a box was started; how many bytes are to be printed.
 pub struct Begun {

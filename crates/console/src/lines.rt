@@ -3,17 +3,17 @@ use crate::Answered;
 use crate::Begun;
 use crate::text::put;
 use crate::text::put_refusal;
-use node::Node;
-use node::Started;
-use node::Step;
+use record::Node;
+use record::Started;
+use record::Step;
 ghost use mathlib.Core.Path.{_≡_};
 ghost use mathlib.Core.Bool.{true};
 ghost use Prim.Native.Nat.{_≤_};
 ghost use lib.ListN.{length};
 ghost use Rattle.frames.specs.Limits.{log-limit};
 ghost use Rattle.raft.specs.Record.{good};
-ghost use Rattle.node.specs.Calls.{state-of, Called, call};
-ghost use Rattle.node.specs.Calls as calls;
+ghost use Rattle.record.specs.Calls.{state-of, Called, call};
+ghost use Rattle.record.specs.Calls as calls;
 ghost use Rattle.console.specs.Session as definition;
 ghost use Rattle.console.specs.Calls.{longest, starts, Beginning, beginning, Saying, saying};
 
@@ -35,7 +35,7 @@ fn is_order(s: &[u8]) -> bool
     if s[0] != b'o' {
         return false;
     }
-    frames::is_line(&s[1..])
+    frame_reader::is_line(&s[1..])
 }
 
 fn order_in(s: &[u8]) -> u64
@@ -61,16 +61,16 @@ fn step(
     ensures { λ r. ⌜ _≡_ {A = Called} (record { answer = r; terms = now (terms .exit); orders = now (orders .exit); journal = now (journal .exit); room = now (room .exit) }) (call (definition.event-of (now (line .entry))) n (now (terms .entry)) (now (orders .entry)) (now (journal .entry)) (now (room .entry))) ⌝ }
 {
     if !known {
-        return node::refused(n, 12);
+        return writing::refused(n, 12);
     }
     if is_letter(b't', line) {
-        return node::run_timeout(n, &terms[..], &orders[..], journal, room);
+        return events::run_timeout(n, &terms[..], &orders[..], journal, room);
     }
     if is_letter(b'p', line) {
-        return node::run_prompt(n, &terms[..], &orders[..], journal, room);
+        return events::run_prompt(n, &terms[..], &orders[..], journal, room);
     }
     if is_order(line) {
-        return node::run_order(n, order_in(line), terms, orders, journal, room);
+        return events::run_order(n, order_in(line), terms, orders, journal, room);
     }
     node::run_bytes(n, line, terms, orders, journal, room)
 }
@@ -129,7 +129,7 @@ fn answer_on(
             bytes: 0,
         };
     }
-    let known = node::is_good(n, &terms[..]);
+    let known = changes::is_good(n, &terms[..]);
     // Room for six appends of four entries; more of it changes nothing that anyone sees.
     let mut messages = [0u8; 786];
     answer_known(n, known, line, terms, orders, room, &mut messages)
@@ -153,9 +153,9 @@ fn start(line: &[u8], room: &mut [u8]) -> Started
     ensures { λ r. ⌜ _≡_ {A = calls.Begun} (record { answer = r; room = now (room .exit) }) (starts (now (line .entry)) (now (room .entry))) ⌝ }
 {
     if !opening::is_head_shaped(line) {
-        return Node::start(0, 0, room);
+        return node::start(0, 0, room);
     }
-    Node::start(digits::get_u8(line, 4), digits::get_u8(line, 6), room)
+    node::start(digits::get_u8(line, 4), digits::get_u8(line, 6), room)
 }
 
 // The first line: it starts the box whose head it is.
@@ -164,7 +164,7 @@ pub fn begin(line: &[u8], room: &mut [u8]) -> Begun
     ensures { λ r. ⌜ r .bytes ≤ length (now (room .entry)) ⌝ }
 {
     if room.len() < 905 {
-        let none = Node::start(0, 0, room);
+        let none = node::start(0, 0, room);
         let node = none.node;
         return Begun {
             fits: false,

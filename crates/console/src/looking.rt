@@ -1,13 +1,13 @@
 // The program `replay`: the box asked for, and a record as text.
 use crate::text::put_decimal;
-use node::Node;
+use record::Node;
 ghost use mathlib.Core.Path.{_≡_};
 ghost use Prim.Native.Nat.{_+_, _*_, _≤_};
 ghost use lib.ListN.{length};
 ghost use Rattle.digits.specs.Room.{over};
 ghost use Rattle.frames.specs.Limits.{log-limit};
 ghost use Rattle.raft.specs.Lent.{entries-of};
-ghost use Rattle.node.specs.Calls.{state-of};
+ghost use Rattle.record.specs.Calls.{state-of};
 ghost use Rattle.console.specs.Looking.{asks, asked-box, numbered, first-shown, log-shown, shown};
 
 fn is_asking(s: &[u8]) -> bool
@@ -63,7 +63,7 @@ fn put_log(room: &mut [u8], at: usize, terms: &[u32], orders: &[u64], last: usiz
 {
     let mut i = 0;
     while i < last {
-        frames::put_entry(room, at + 25 * i, terms[i], orders[i]);
+        frame_writer::put_entry(room, at + 25 * i, terms[i], orders[i]);
         room[at + 25 * i + 24] = 10;
         i += 1;
     }

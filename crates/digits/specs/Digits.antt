@@ -1,9 +1,9 @@
 -- 01, 'Frames and journal lines': lower-case hexadecimal, two digits a byte, fields big-endian. Assumes nothing.
 use Prim.Native.Nat.{ℕ, zero, suc, _+_, _*_, _/_, _%_}
-use mathlib.Core.Bool.{Bool, true, false, cond, _&&_}
+use mathlib.Core.Bool.{Bool, true, cond, _&&_}
 use mathlib.Core.List.{List, [], _∷_, _++_}
 use lib.Dec.{eqb, ltb}
-use lib.ListN.{length, getD, take, drop}
+use lib.ListN.{getD, take, drop}
 
 -- The sixteen digit characters, `0` to `9` and `a` to `f`, each at the place of its number.
 abbrev pub digits : List ℕ

@@ -1,12 +1,12 @@
 -- What is proved of digits and fields, once and over the width. Callers use these and never the definitions' text. Assumes nothing.
 use Prim.Native.Nat.{ℕ, zero, suc, _+_, _-_, _*_, _/_, _%_, _^_, _≤_, _<_}
-use native.Mathlib.Nat.{add-zero, add-suc, suc-add, zero-add, mul-zero, div-one, pow-zero, pow-suc, mod-lt, mod-eq-of-lt, div-div-eq-div-mul, div-lt-iff-lt-mul, mul-comm, mul-le-mul-right}
+use native.Mathlib.Nat.{add-zero, add-suc, suc-add, div-one, pow-zero, pow-suc, mod-lt, mod-eq-of-lt, div-div-eq-div-mul, div-lt-iff-lt-mul, mul-comm, mul-le-mul-right}
 use native.Mathlib.Numerals.{one-add, add-one}
 use native.Mathlib.Omega.{arith}
 use mathlib.Core.Path.{_≡_, refl, sym, ap, _∙_, subst}
 use mathlib.Core.Bool.{Bool, true, false, not, _&&_, _||_, Bool·beq, and-true, and-assoc}
 use mathlib.Core.List.{List, [], _∷_, _++_, append-assoc, append-nil}
-use lib.Dec.{eqb, ltb, leb}
+use lib.Dec.{eqb, leb}
 use lib.Arith.{digits-div, digits-mod, mod-mul}
 use lib.ListN.{length, getD, take, drop, length-append, length-take, length-drop, drop-of-length-le}
 use lib.Seq.{split-at, drop-cons, drop-drop, take-add, length-take-le}

@@ -1,12 +1,12 @@
 -- What is proved of room that a caller lends. Assumes nothing.
-use Prim.Native.Nat.{ℕ, suc, _+_, _/_, _%_, _^_, _≤_, _<_}
+use Prim.Native.Nat.{ℕ, _+_, _/_, _%_, _^_, _≤_, _<_}
 use native.Mathlib.Nat.{add-zero, add-assoc, mod-eq-of-lt}
 use native.Mathlib.Numerals.{add-one}
 use native.Mathlib.Omega.{arith}
-use mathlib.Core.Path.{_≡_, refl, sym, ap, _∙_}
+use mathlib.Core.Path.{_≡_, sym, _∙_}
 use mathlib.Core.List.{List, [], _∷_, _++_, append-assoc, append-nil}
 use lib.ListN.{length, take, drop, set, length-append, length-take, length-drop, take-append-drop}
-use lib.Seq.{take-append-le, take-at, drop-append-add, drop-drop, length-take-le, sets-eq}
+use lib.Seq.{take-at, drop-append-add, drop-drop, sets-eq}
 use Rattle.digits.specs.Digits.{digit, hex, big-endian, spelt}
 use Rattle.digits.specs.Room.{over}
 use Rattle.digits.specs.Laws.{spelt-halves, length-spelt}

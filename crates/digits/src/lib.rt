@@ -8,8 +8,8 @@ ghost use mathlib.Core.Path.{_≡_};
 ghost use mathlib.Core.Bool.{true};
 ghost use Prim.Native.Nat.{_+_, _≤_, _<_};
 ghost use lib.ListN.{length};
-ghost use Rattle.digits.specs.Digits.{digits, is-digit, all-digits, worth, field, spelt, run};
-ghost use Rattle.digits.specs.Room.{over};
+ghost use Rattle.digits.specs.Digits.{is-digit, all-digits, worth, field, spelt, run};
+ghost use Rattle.digits.specs.Room.{over, Lent};
 
 // The sixteen digit characters.
 const DIGITS: [u8; 16] = *b"0123456789abcdef";
@@ -84,17 +84,16 @@ pub fn get_u64(s: &[u8], at: usize) -> u64
 
 // Writes one byte's two digits, from the table lent, at a place of the room.
 fn spell_u8(table: &[u8; 16], room: &mut [u8], at: usize, n: u8)
-    requires { ⌜ now table ≡ digits ⌝ }
-    requires { ⌜ at + 2 ≤ length (now room) ⌝ }
+    requires { ⌜ Lent 1 (now table) (now room) at ⌝ }
     ensures { λ _. ⌜ now (room .exit) ≡ over (now (room .entry)) at (spelt 1 n) ⌝ }
 {
     room[at] = table[(n / 16) as usize];
     room[at + 1] = table[(n % 16) as usize];
 }
 
+// Writes two bytes, the high one first; and so on, each width by the one below it.
 fn spell_u16(table: &[u8; 16], room: &mut [u8], at: usize, n: u16)
-    requires { ⌜ now table ≡ digits ⌝ }
-    requires { ⌜ at + 4 ≤ length (now room) ⌝ }
+    requires { ⌜ Lent 2 (now table) (now room) at ⌝ }
     ensures { λ _. ⌜ now (room .exit) ≡ over (now (room .entry)) at (spelt 2 n) ⌝ }
 {
     spell_u8(table, room, at, (n / 256) as u8);
@@ -102,8 +101,7 @@ fn spell_u16(table: &[u8; 16], room: &mut [u8], at: usize, n: u16)
 }
 
 fn spell_u32(table: &[u8; 16], room: &mut [u8], at: usize, n: u32)
-    requires { ⌜ now table ≡ digits ⌝ }
-    requires { ⌜ at + 8 ≤ length (now room) ⌝ }
+    requires { ⌜ Lent 4 (now table) (now room) at ⌝ }
     ensures { λ _. ⌜ now (room .exit) ≡ over (now (room .entry)) at (spelt 4 n) ⌝ }
 {
     spell_u16(table, room, at, (n / 65536) as u16);
@@ -111,8 +109,7 @@ fn spell_u32(table: &[u8; 16], room: &mut [u8], at: usize, n: u32)
 }
 
 fn spell_u64(table: &[u8; 16], room: &mut [u8], at: usize, n: u64)
-    requires { ⌜ now table ≡ digits ⌝ }
-    requires { ⌜ at + 16 ≤ length (now room) ⌝ }
+    requires { ⌜ Lent 8 (now table) (now room) at ⌝ }
     ensures { λ _. ⌜ now (room .exit) ≡ over (now (room .entry)) at (spelt 8 n) ⌝ }
 {
     spell_u32(table, room, at, (n / 4294967296) as u32);

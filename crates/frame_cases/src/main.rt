@@ -67,7 +67,7 @@ fn fields(f: Fields) {
 // What the writer makes of the fields, and the number of its refusal where it makes none.
 fn frame(f: Fields) {
     let mut room = [0u8; 256];
-    let written = frames::write(&mut room, f);
+    let written = frame_writer::write(&mut room, f);
     let bytes = written.bytes;
     if written.refusal == 0 {
         if bytes <= 256 {
@@ -81,7 +81,7 @@ fn frame(f: Fields) {
 }
 
 fn show(case: &[u8]) {
-    let parsed = frames::read(case);
+    let parsed = frame_reader::read(case);
     if parsed.refusal == 0 {
         let f = parsed.fields;
         fields(f);

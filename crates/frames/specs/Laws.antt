@@ -32,6 +32,11 @@ pub kind-4 : {A : Type 0} (k : ℕ) (a b c d : A) → (k ≡ 1 → ⊥) → (k �
 unfolding by-kind
 kind-4 k a b c d p q r = rw (ne-eqb k 1 p, ne-eqb k 2 q, ne-eqb k 3 r)
 
+-- One of the four kinds.
+pub record OfFour (k : ℕ) : Type 0 where
+  pub least : 1 ≤ k
+  pub most : k < 5
+
 -- what holds of the four kinds holds of each number from 1 to 4
 pub at-kind : (P : ℕ → Type 0) → P 1 → P 2 → P 3 → P 4 → (k : ℕ) → 1 ≤ k → k < 5 → P k
 at-kind P a b c d zero l h = absurd (omega arith)
@@ -55,11 +60,11 @@ count-of (append from to term previous-index previous-term commit es) = length e
 count-of (append-answer from to term reply index) = 0
 
 -- a message is of one of the four kinds
-pub kind-range : (m : Message) → (1 ≤ kind-of m) × (kind-of m < 5)
-kind-range (vote-request from to term last-index last-term) = omega arith
-kind-range (vote-answer from to term reply) = omega arith
-kind-range (append from to term previous-index previous-term commit es) = omega arith
-kind-range (append-answer from to term reply index) = omega arith
+pub kind-range : (m : Message) → OfFour (kind-of m)
+kind-range (vote-request from to term last-index last-term) = record { least = omega arith; most = omega arith }
+kind-range (vote-answer from to term reply) = record { least = omega arith; most = omega arith }
+kind-range (append from to term previous-index previous-term commit es) = record { least = omega arith; most = omega arith }
+kind-range (append-answer from to term reply index) = record { least = omega arith; most = omega arith }
 
 -- ---- the entries of the struct, one by one
 

@@ -1,9 +1,14 @@
 -- 01's limits, each under one name. The code has them as constants of `Fields`. Assumes nothing.
-use Prim.Native.Nat.{ℕ}
+use Prim.Native.Nat.{ℕ, _≤_}
 
 -- Boxes have the numbers 1 to 7.
 abbrev pub boxes : ℕ
 boxes = 7
+
+-- A number that a box can have, for contracts that require one.
+pub record IsBox (i : ℕ) : Type 0 where
+  pub least : 1 ≤ i
+  pub most : i ≤ boxes
 
 -- A log has at most 256 entries, so an index is at most 256.
 abbrev pub log-limit : ℕ

@@ -15,10 +15,12 @@ use Rattle.frames.specs.declared.Entry.{Entry}
 use Rattle.frames.specs.declared.Fields.{Fields}
 use Rattle.frames.specs.Message.{Message, vote-request, vote-answer, append, append-answer, by-kind, line-feed}
 use Rattle.frames.specs.Rules.{is-start, is-index, is-pair, in-order, obeys}
-use Rattle.frames.specs.Reading.{frame, refused, lengths, size, text-size, is-line, version, kind, count, is-headed, shaped, readable, entry-at, entries-at, append-in, vote-request-in, vote-answer-in, append-answer-in, message-in, is-frame, reading}
+use Rattle.frames.specs.Reading.{lengths, size, text-size, is-line, version, kind, count, is-headed, shaped, readable}
+use Rattle.frames.specs.Reading.{entry-at, entries-at, vote-request-in, vote-answer-in, append-in, append-answer-in, message-in}
+use Rattle.frames.specs.Reading.{is-frame, frame, refused, reading}
 use Rattle.frames.specs.Fields.{no-entry, listed, message-of, places, fields-of, answer}
 use Rattle.frames.specs.Clauses.{four}
-use Rattle.frames.specs.Laws.{at-kind, count-of}
+use Rattle.frames.specs.Laws.{OfFour, at-kind, count-of}
 
 -- ---- the table of lengths, by a computed test
 
@@ -76,11 +78,11 @@ unfolding is-line
 line-by s n l = run-ends s n l
 
 -- a headed text is of one of the four kinds
-pub headed-kind : (s : List ℕ) → is-headed s ≡ true → (1 ≤ kind s) × (kind s < 5)
+pub headed-kind : (s : List ℕ) → is-headed s ≡ true → OfFour (kind s)
 unfolding is-headed
 headed-kind s h =
     let t = four (is-line s) (eqb (version s) 1) (leb 1 (kind s)) (leb (kind s) 4) h in
-    (leb-true 1 (kind s) (t .2), omega (arith, leb-true (kind s) 4 (t .3)))
+    record { least = leb-true 1 (kind s) (t .2); most = omega (arith, leb-true (kind s) 4 (t .3)) }
 
 -- The form of a frame, test by test.
 pub record Form (s : List ℕ) : Type 0 where
@@ -113,8 +115,8 @@ shaped-form s h =
       line = eqb-true _ _ (and-left (eqb (run s + 1) (length s)) _ (headed .0));
       ended = eqb-true _ _ (and-right (eqb (run s + 1) (length s)) _ (headed .0));
       one = eqb-true _ _ (headed .1);
-      least = headed-kind s (and-left (is-headed s) _ h) .0;
-      most = headed-kind s (and-left (is-headed s) _ h) .1;
+      least = headed-kind s (and-left (is-headed s) _ h) .least;
+      most = headed-kind s (and-left (is-headed s) _ h) .most;
       long = eqb-true _ _ (and-right (is-headed s) _ h);
     }
 

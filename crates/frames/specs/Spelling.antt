@@ -14,7 +14,8 @@ use Rattle.digits.specs.Tests.{and-left}
 use Rattle.digits.specs.Laws.{length-spelt, numeral-spelt, spelt-digits, all-digits-append, run-line, spelt-field, field-lt}
 use Rattle.frames.specs.declared.Entry.{Entry}
 use Rattle.frames.specs.declared.Fields.{Fields}
-use Rattle.frames.specs.Message.{Message, vote-request, vote-answer, append, append-answer, by-kind, Field, width, value, entry-fields, table, spell, sized, line-feed, text}
+use Rattle.frames.specs.Message.{Message, vote-request, vote-answer, append, append-answer, by-kind}
+use Rattle.frames.specs.Message.{Field, number, width, value, start, entry-fields, table, spell, sized, line-feed, text}
 use Rattle.frames.specs.Rules.{obeys}
 use Rattle.frames.specs.Reading.{version, kind, count, shaped, entry-at, entries-at, vote-request-in, vote-answer-in, append-in, append-answer-in, message-in, is-frame, frame, reading}
 use Rattle.frames.specs.Fields.{no-entry, listed, message-of, places, fields-of, is-unused, entries-unused, fields-unused, one-frame}
@@ -29,6 +30,12 @@ use Rattle.frames.specs.WritingLaws.{chars, chars-table, length-text, wh
 unfoldable pub stands : List Field → ℕ → List ℕ → Type 0
 stands [] at s = Unit {0}
 stands (f ∷ fs) at s = (field s at (width f) ≡ value f) × stands fs (at + (width f + width f)) s
+
+-- fields behind others stand behind them
+stands-behind : (fs gs : List Field) (at : ℕ) (s : List ℕ) → stands (fs ++ gs) at s → stands gs (at + chars fs) s
+unfolding stands
+stands-behind [] gs at s t = rw add-zero t
+stands-behind (f ∷ fs) gs at s t = rw (← add-assoc at (width f + width f) (chars fs)) (stands-behind fs gs (at + (width f + width f)) s (t .1))
 
 -- fields are written with digits alone
 pub spell-digits : (fs : List Field) → all-digits (spell fs) ≡ true
@@ -104,7 +111,8 @@ told (vote-request from to term last-index last-term) s t =
 told (vote-answer from to term reply) s t =
     record { its-version = t .0; its-kind = t .1 .0; its-count = rw (t .1 .0); its-message = rw (t .1 .0) (cc) }
 told (append from to term previous-index previous-term commit es) s t =
-    let read : entries-at s 34 (length es) ≡ es = entries-read es 34 s (t .1 .1 .1 .1 .1 .1 .1 .1 .1) in
+    let fixed = start 3 from to term (number 2 previous-index ∷ number 4 previous-term ∷ number 2 commit ∷ number 1 (length es) ∷ []) in
+    let read : entries-at s 34 (length es) ≡ es = entries-read es 34 s (stands-behind fixed (entry-fields es) 0 s t) in
     record { its-version = t .0; its-kind = t .1 .0; its-count = rw (t .1 .0) (cc); its-message = rw (t .1 .0) (cc) }
 told (append-answer from to term reply index) s t =
     record { its-version = t .0; its-kind = t .1 .0; its-count = rw (t .1 .0); its-message = rw (t .1 .0) (cc) }
@@ -139,8 +147,8 @@ text-form m z =
       line = rw (digits, length-append);
       ended = rw digits (getD-append-seam (spell (table m)) line-feed [] 0);
       one = text-told m z .its-version;
-      least = rw (text-told m z .its-kind) (kind-range m .0);
-      most = rw (text-told m z .its-kind) (kind-range m .1);
+      least = rw (text-told m z .its-kind) (kind-range m .least);
+      most = rw (text-told m z .its-kind) (kind-range m .most);
       long = rw (text-told m z .its-kind, text-told m z .its-count) (length-text m);
     }
   where

@@ -1,20 +1,13 @@
-// 01's frames: a reader from any bytes to the fields of a message, and a writer into room that the caller lends.
-mod reader;
+// 01's frames: the fields of a message, its length, and the rules that it obeys. Reading is in `frame_reader`, writing in `frame_writer`.
+mod lengths;
 mod rules;
-mod writer;
 
-pub use reader::entries;
-pub use reader::is_line;
-pub use reader::read;
+pub use lengths::size;
+pub use lengths::text_size;
 pub use rules::in_order;
-pub use writer::put_append_answer;
-pub use writer::put_append_start;
-pub use writer::put_end;
-pub use writer::put_entries;
-pub use writer::put_entry;
-pub use writer::put_vote_answer;
-pub use writer::put_vote_request;
-pub use writer::write;
+pub use rules::is_box;
+pub use rules::is_frame;
+pub use rules::obeys;
 
 // An entry of a log: the term it was made in and the order, its 8 bytes as one number, the first byte highest.
 pub struct Entry {

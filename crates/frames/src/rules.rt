@@ -4,49 +4,54 @@ use crate::Entry;
 use crate::Fields;
 ghost use mathlib.Core.Path.{_≡_};
 ghost use Prim.Native.Nat.{_≤_};
-ghost use lib.ListN.{getD};
 ghost use Rattle.frames.specs.Message.{vote-request, vote-answer, append, append-answer};
 ghost use Rattle.frames.specs.Rules.{is-box, is-index, is-reply, is-pair, is-start, follows, in-order, obeys};
-ghost use Rattle.frames.specs.Fields.{no-entry, listed, message-of, is-unused, entries-unused, fields-unused, one-frame};
+ghost use Rattle.frames.specs.Fields.{listed, message-of, is-unused, entries-unused, fields-unused, one-frame};
 
-fn is_box(i: u8) -> bool
+// "Boxes 1 to 7" (An inside call: the record's rules ask it too.)
+pub fn is_box(i: u8) -> bool
     ensures { λ r. ⌜ r ≡ is-box i ⌝ }
 {
     (1 <= i) & (i <= Fields::BOXES)
 }
 
+// "indexes at most 256"
 fn is_index(i: u16) -> bool
     ensures { λ r. ⌜ r ≡ is-index i ⌝ }
 {
     i <= Fields::LOG
 }
 
+// "yes 0 or 1"
 fn is_reply(y: u8) -> bool
     ensures { λ r. ⌜ r ≡ is-reply y ⌝ }
 {
     y <= 1
 }
 
+// "an index is 0 exactly when its term is"
 fn is_pair(index: u16, term: u32) -> bool
     ensures { λ r. ⌜ r ≡ is-pair index term ⌝ }
 {
     ((index == 0) & (term == 0)) | ((1 <= index) & (1 <= term))
 }
 
+// "Boxes 1 to 7; term at least 1"
 fn is_start(from: u8, to: u8, term: u32) -> bool
     ensures { λ r. ⌜ r ≡ is-start from to term ⌝ }
 {
     is_box(from) & is_box(to) & (1 <= term)
 }
 
-// One step of the entry rule.
+// One step of the entry rule: a term, the previous one first, and the entry's term that follows it.
 fn follows(last: u32, term: u32, next: u32) -> bool
     ensures { λ r. ⌜ r ≡ follows last term next ⌝ }
 {
     (last <= term) & (1 <= next) & (last <= next)
 }
 
-// The entry rule over the first count entries. (An inside call: the journal's lines have the same rule.)
+// The entry rule over the first count entries: "previous term and the entry terms never fall, entry terms at least 1, none of them, previous
+// term included, above term". (An inside call: the journal's lines have the same rule.)
 pub fn in_order(entries: [Entry; Fields::ENTRIES], count: usize, previous: u32, term: u32) -> bool
     requires { ⌜ count ≤ 4 ⌝ }
     ensures { λ r. ⌜ r ≡ in-order previous term (listed entries 0 count) ⌝ }
@@ -64,6 +69,7 @@ pub fn in_order(entries: [Entry; Fields::ENTRIES], count: usize, previous: u32, 
     last <= term
 }
 
+// "Kind 1: last term below term."
 fn is_vote_request(f: Fields) -> bool
     ensures { λ r. ⌜ r ≡ obeys (vote-request (f .from) (f .to) (f .term) (f .index) (f .prior)) ⌝ }
 {
@@ -73,12 +79,14 @@ fn is_vote_request(f: Fields) -> bool
         & (f.prior < f.term)
 }
 
+// Kind 2: the rules of every frame, and "yes 0 or 1".
 fn is_vote_answer(f: Fields) -> bool
     ensures { λ r. ⌜ r ≡ obeys (vote-answer (f .from) (f .to) (f .term) (f .reply)) ⌝ }
 {
     is_start(f.from, f.to, f.term) & is_reply(f.reply)
 }
 
+// "Kind 3: count at most 4, previous index + count at most 256", and the entry rule.
 fn is_append(f: Fields) -> bool
     requires { ⌜ f .count ≤ 4 ⌝ }
     ensures { λ r. ⌜ r ≡ obeys (append (f .from) (f .to) (f .term) (f .index) (f .prior) (f .commit) (listed (f .entries) 0 (f .count))) ⌝ }
@@ -94,6 +102,7 @@ fn is_append(f: Fields) -> bool
         & in_order(entries, count as usize, f.prior, f.term)
 }
 
+// "Kind 4: a no names index 0."
 fn is_append_answer(f: Fields) -> bool
     ensures { λ r. ⌜ r ≡ obeys (append-answer (f .from) (f .to) (f .term) (f .reply) (f .index)) ⌝ }
 {
@@ -103,7 +112,7 @@ fn is_append_answer(f: Fields) -> bool
         & ((f.reply == 1) | (f.index == 0))
 }
 
-// The rules of the fields' kind.
+// The rules of the fields' kind. (An inside call, of the reader: it knows that the entries are at most four.)
 pub fn obeys(f: Fields) -> bool
     requires { ⌜ f .count ≤ 4 ⌝ }
     ensures { λ r. ⌜ r ≡ obeys (message-of f) ⌝ }
@@ -128,6 +137,7 @@ fn is_unused(count: u8, at: u8, e: Entry) -> bool
     (at < count) | ((e.term == 0) & (e.order == 0))
 }
 
+// So are all entries past the count.
 fn entries_unused(f: Fields) -> bool
     ensures { λ r. ⌜ r ≡ entries-unused (f .count) (f .entries) ⌝ }
 {
@@ -155,7 +165,7 @@ fn fields_unused(f: Fields) -> bool
     (f.prior == 0) & (f.commit == 0) & (f.count == 0)
 }
 
-// The fields are one frame.
+// The fields are one frame: at most four entries, a kind of the four, the rules of the kind, and nothing that the kind does not have.
 pub fn is_frame(f: Fields) -> bool
     ensures { λ r. ⌜ r ≡ one-frame f ⌝ }
 {

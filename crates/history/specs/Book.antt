@@ -1,81 +1,57 @@
--- What follows: one leader a term; what leaders have committed makes one book; every leader holds what was committed up to its term; what is
--- covered is in the book, and no leader's append can cut it. Assumes nothing.
+-- What follows: every leader holds what was committed up to its term; what leaders have committed makes one book. Assumes nothing.
 use Prim.Native.Nat.{ℕ, _≤_, _<_}
 use native.Mathlib.Decide.{decLe, decLt}
 use native.Mathlib.Omega.{arith}
-use mathlib.Core.Path.{_≡_}
+use mathlib.Core.Path.{_≡_, ap}
 use mathlib.Core.List.{List, []}
 use mathlib.Core.Logic.{_⊎_, inl, inr}
+use lib.ListN.{length, take}
+use lib.Seq.{length-take-le}
 use Rattle.frames.specs.declared.Entry.{Entry}
-use Rattle.history.specs.Begins.{Begins, nothing-begins, begins-nothing, begins-self, begins-trans, begins-take, begins-either}
-use Rattle.history.specs.Most.{Most, both, most-map}
-use Rattle.history.specs.History.{History, Won, Facts}
-use Rattle.history.specs.LeaderComplete.{Committed, first-of, leader-complete, committed-reaches}
+use Rattle.history.specs.Begins.{Begins, begins-long, nothing-begins, begins-nothing, begins-self, begins-trans, begins-take, begins-either}
+use Rattle.history.specs.History.{History, Won, first-of, Committed, Before, lower, sooner, Settled, none, by, Facts}
+use Rattle.history.specs.Alike.{Alike, alike-both, alike-less, begins-alike, first-alike}
+use Rattle.history.specs.InForce.{Rule}
+use Rattle.history.specs.Lineage.{committed-reaches}
+use Rattle.history.specs.LeaderComplete.{leader-complete, log-holds}
 
--- A log is in the book, by a term up to a bound: it is empty, or a beginning of what that term's leader has committed. So is what a box hands
--- out, by a term that the box has reached, and what an append's commit covers, by the append's own.
-pub data Covered (members : ℕ) (h : History) (bound : ℕ) (log : List Entry) : Type 0 where
-  nothing : log ≡ [] → Covered members h bound log
-  written : {t n : ℕ} → Committed members h t n → t ≤ bound → Begins log (first-of h t n) → Covered members h bound log
+-- A log is in the book, by a term up to a bound.
+pub data Covered (rule : Rule) (h : History) (bound : ℕ) (log : List Entry) : Type 0 where
+  nothing : log ≡ [] → Covered rule h bound log
+  written : {t n m : ℕ} → Committed rule h t n m → t ≤ bound → Begins log (first-of h t n) → Covered rule h bound log
 
 -- what was committed is covered
-pub committed-covered : {members : ℕ} {h : History} {t n : ℕ} → Committed members h t n → Covered members h t (first-of h t n)
+pub committed-covered : {rule : Rule} {h : History} {t n m : ℕ} → Committed rule h t n m → Covered rule h t (first-of h t n)
 committed-covered m = written m (omega arith) (begins-self _)
 
 -- a beginning of what is covered is covered, in a higher term too
-pub covered-less : {members : ℕ} {h : History} {bound : ℕ} {log : List Entry} → Covered members h bound log
-    → (part : List Entry) → Begins part log → (higher : ℕ) → bound ≤ higher → Covered members h higher part
+pub covered-less : {rule : Rule} {h : History} {bound : ℕ} {log : List Entry} → Covered rule h bound log
+    → (part : List Entry) → Begins part log → (higher : ℕ) → bound ≤ higher → Covered rule h higher part
 covered-less (nothing e) part p higher l = nothing (begins-nothing (rw e at p))
 covered-less (written m a b) part p higher l = written m (omega arith) (begins-trans p b)
 
-module _ {members : ℕ} {h : History} (small : members < 128) (f : Facts members h) where
-  -- Where a majority voted for c nobody else has won: its voters share a box with them, and that box voted once.
-  pub no-other : (t c d : ℕ) (start : List Entry) → Most members (λ j. h .voted j t c) → h .leaders .won t d start → d ≡ c
-  no-other t c d start m w =
-      let b = both small m (f .winning t d start w) in
-      f .one-vote (b .box) t d c (f .granted-voted (b .box) t d (b .right .log) (b .right .has)) (b .left)
-
-  -- so nobody has won, where c has not
-  pub unwon : (t c : ℕ) → Most members (λ j. h .voted j t c) → ((start : List Entry) → h .leaders .won t c start → ⊥)
-      → Won (h .leaders) t → ⊥
-  unwon t c m not w = not (w .start) (rw (no-other t c (w .box) (w .start) m (w .has)) at (w .has))
-
-  -- One leader a term. Alarm 6: an append of the term that a box leads would come from the box itself.
-  pub one-leader : (t c d : ℕ) (start other : List Entry) → h .leaders .won t c start → h .leaders .won t d other → c ≡ d
-  one-leader t c d start other v w =
-      no-other t d c start (most-map (λ j g. f .granted-voted j t d (g .log) (g .has)) (f .winning t d other w)) v
-
+module _ {rule : Rule} {h : History} (f : Facts rule h) where
   -- Every leader's log begins with what was committed up to its term.
-  pub leader-holds : {t n : ℕ} → Committed members h t n → (s : ℕ) → Won (h .leaders) s → t ≤ s
-      → Begins (first-of h t n) (h .leaders .log s)
-  leader-holds {t} {n} m s w l = go (decLt t s)
-    where
-      go : Dec (t < s) → Begins (first-of h t n) (h .leaders .log s)
-      go (yes a) =
-          begins-trans (leader-complete small f m s (w .box) (w .start) a (w .has)) (f .leading s (w .box) (w .start) (w .has) .begins)
-      go (no a) = rw same (begins-take n (h .leaders .log s))
-        where
-          same : t ≡ s
-          same = omega arith
+  pub leader-holds : {t n m : ℕ} → Committed rule h t n m → (s : ℕ) → Won (h .leaders) s → t ≤ s → Begins (first-of h t n) (h .leaders .log s)
+  leader-holds x s w l = log-holds f x w (leader-complete f s (w .box) (w .start) (w .has)) l
 
   -- Alarm 7: the log of a leader whose term the box has not passed begins with what the box hands out.
-  pub sender-holds : {bound : ℕ} {log : List Entry} → Covered members h bound log → (s : ℕ) → Won (h .leaders) s → bound ≤ s
+  pub sender-holds : {bound : ℕ} {log : List Entry} → Covered rule h bound log → (s : ℕ) → Won (h .leaders) s → bound ≤ s
       → Begins log (h .leaders .log s)
   sender-holds (nothing e) s w l = rw e (nothing-begins _)
-  sender-holds (written m a b) s w l = begins-trans b (leader-holds m s w (omega arith))
+  sender-holds (written x a b) s w l = begins-trans b (leader-holds x s w (omega arith))
 
-  -- Two committed beginnings: one begins the other. Both lie in the log of the later of the two leaders.
-  pub committed-agree : {t n s m : ℕ} → Committed members h t n → Committed members h s m
-      → Begins (first-of h t n) (first-of h s m) ⊎ Begins (first-of h s m) (first-of h t n)
-  committed-agree {t} {n} {s} {m} x y = go (decLe t s)
+  -- Two committed beginnings: one begins the other.
+  pub committed-agree : {t n m s i j : ℕ} → Committed rule h t n m → Committed rule h s i j
+      → Begins (first-of h t n) (first-of h s i) ⊎ Begins (first-of h s i) (first-of h t n)
+  committed-agree {t} {n} {m} {s} {i} {j} x y = go (decLe t s)
     where
-      go : Dec (t ≤ s) → Begins (first-of h t n) (first-of h s m) ⊎ Begins (first-of h s m) (first-of h t n)
-      go (yes l) = begins-either (leader-holds x s (committed-reaches small f y .won) l) (begins-take m (h .leaders .log s))
-      go (no l) =
-          begins-either (begins-take n (h .leaders .log t)) (leader-holds y t (committed-reaches small f x .won) (omega arith))
+      go : Dec (t ≤ s) → Begins (first-of h t n) (first-of h s i) ⊎ Begins (first-of h s i) (first-of h t n)
+      go (yes l) = begins-either (leader-holds x s (committed-reaches f y .won) l) (begins-take i (h .leaders .log s))
+      go (no l) = begins-either (begins-take n (h .leaders .log t)) (leader-holds y t (committed-reaches f x .won) (omega arith))
 
-  -- So all that is covered makes one book: of two such logs one begins the other.
-  pub one-book : {bound higher : ℕ} {log other : List Entry} → Covered members h bound log → Covered members h higher other
+  -- So all that is covered makes one book.
+  pub one-book : {bound higher : ℕ} {log other : List Entry} → Covered rule h bound log → Covered rule h higher other
       → Begins log other ⊎ Begins other log
   one-book {other = other} (nothing e) y = inl (rw e (nothing-begins other))
   one-book {log = log} (written x a p) (nothing e) = inr (rw e (nothing-begins log))
@@ -84,3 +60,30 @@ module _ {members : ℕ} {h : History} (small : members < 128) (f : Facts member
       go : {u v : List Entry} → Begins u v ⊎ Begins v u → Begins log u → Begins other v → Begins log other ⊎ Begins other log
       go (inl r) p q = begins-either (begins-trans p r) q
       go (inr r) p q = begins-either p (begins-trans q r)
+
+-- ---- what a leader's commit covers it may build on
+
+-- **An index up to a leader's commit is settled for what the leader adds next:** so a change that is not refused with 15, and the new configuration
+-- behind a joint one that commit covers, may be there (`may-change`).
+pub covered-settled : {rule : Rule} {h : History} {t commit p : ℕ} {log : List Entry} → h .leaders .log t ≡ log → commit ≤ length log → p ≤ commit
+    → Covered rule h t (take commit log) → Settled rule h t (length log) p log
+covered-settled {rule} {h} {t} {commit} {p} {log} own l b c = go c
+  where
+    long : length (take commit log) ≡ commit
+    long = length-take-le commit log l
+
+    go : Covered rule h t (take commit log) → Settled rule h t (length log) p log
+    go (nothing e) = none (omega (arith, long, ap length e))
+    go (written {t = u} {n} {m} x a q) =
+        by x (omega (arith, long, begins-long q, length-take-le n (h .leaders .log u) (omega (arith, x .within, x .reach))))
+        (alike-less (alike-both (first-alike q l) (alike-first-whole x)) p b) (when (decLt u t))
+      where
+        alike-first-whole : Committed rule h u n m → Alike commit (first-of h u n) (h .leaders .log u)
+        alike-first-whole y = begins-alike (begins-take n (h .leaders .log u)) commit (omega (arith, long, begins-long q))
+
+        when : Dec (u < t) → Before u m t (length log)
+        when (yes v) = lower v
+        when (no v) = sooner same (omega (arith, x .reach, ap length own, ap (λ z. length (h .leaders .log z)) same))
+          where
+            same : u ≡ t
+            same = omega arith

@@ -1,5 +1,5 @@
 -- What descent says: terms never fall, and two logs that hold one term at one index are the same up to there. Assumes nothing.
-use Prim.Native.Nat.{ℕ, zero, suc, _≤_}
+use Prim.Native.Nat.{ℕ, zero, suc, _≤_, _<_}
 use native.Mathlib.Decide.{decLe}
 use native.Mathlib.Omega.{arith}
 use mathlib.Core.Path.{_≡_, refl, subst}
@@ -9,6 +9,7 @@ use lib.Seq.{take-length, length-take-le}
 use Rattle.frames.specs.declared.Entry.{Entry}
 use Rattle.raft.specs.Record.{term-at}
 use Rattle.history.specs.Begins.{Begins, begins-long, begins-same, begins-term, begins-take, begins-both, begins-whole}
+use Rattle.history.specs.InForce.{Rule}
 use Rattle.history.specs.History.{Leaders, History, Won, Comes, Descends, Within, Leading, Facts}
 
 -- the term at 0 is 0
@@ -42,34 +43,46 @@ pub descends-last : {l : Leaders} {log : List Entry} → Descends l log → 1 �
 descends-last {l} {log} d a =
     subst (λ x. Begins x (l .log (term-at log (length log)))) (take-length log) (d .at (length log) a (omega arith) .begins)
 
--- a leader's log holds no term above its own
-pub leading-within : {l : Leaders} {t : ℕ} {start : List Entry} → Leading l t start → Within t (l .log t)
-leading-within {l} {t} {start} g = record { at = λ k a b. go k a b (decLe k (length start)) }
-  where
-    go : (k : ℕ) → 1 ≤ k → k ≤ length (l .log t) → Dec (k ≤ length start) → term-at (l .log t) k ≤ t
-    go k a b (yes c) = omega (arith, g .below k a c, begins-term (g .begins) k c)
-    go k a b (no c) = omega (arith, g .added k (omega arith) b)
+module _ {rule : Rule} {h : History} (f : Facts rule h) where
+  module _ {t : ℕ} (w : Won (h .leaders) t) where
+    lead : Leading (h .leaders) t (w .start)
+    lead = f .leading t (w .box) (w .start) (w .has)
 
--- and it descends: what it adds comes from itself
-pub leading-descends : {l : Leaders} {t : ℕ} (w : Won l t) → Leading l t (w .start) → Descends l (l .log t)
-leading-descends {l} {t} w g = record { at = λ k a b. go k a b (decLe k (length (w .start))) }
-  where
-    go : (k : ℕ) → 1 ≤ k → k ≤ length (l .log t) → Dec (k ≤ length (w .start)) → Comes l (l .log t) k
-    go k a b (yes e) =
-        let same = begins-term (g .begins) k e in
-        let c = g .descends .at k a e in
-        record { won = rw same at (c .won); begins = rw (same, begins-same (g .begins) k e) at (c .begins) }
-    go k a b (no e) =
-        let own = g .added k (omega arith) b in
-        record { won = rw own w; begins = rw own (begins-take k (l .log t)) }
+    asked : h .asked t (w .box) (w .start)
+    asked = f .won-asked t (w .box) (w .start) (w .has)
 
-module _ {members : ℕ} {h : History} (f : Facts members h) where
-  -- the log of a term that was won holds no higher term, and descends
-  pub won-within : {t : ℕ} → Won (h .leaders) t → Within t (h .leaders .log t)
-  won-within {t} w = leading-within (f .leading t (w .box) (w .start) (w .has))
+    -- the terms of the log that won are below
+    start-below : (k : ℕ) → 1 ≤ k → k ≤ length (w .start) → term-at (h .leaders .log t) k < t
+    start-below k a b = omega (arith, f .asked-below t (w .box) (w .start) asked k a b, begins-term (lead .begins) k b)
 
-  pub won-descends : {t : ℕ} → Won (h .leaders) t → Descends (h .leaders) (h .leaders .log t)
-  won-descends {t} w = leading-descends w (f .leading t (w .box) (w .start) (w .has))
+    -- so a leader's log holds no term above its own,
+    pub won-within : Within t (h .leaders .log t)
+    won-within = record { at = λ k a b. go k a b (decLe k (length (w .start))) }
+      where
+        go : (k : ℕ) → 1 ≤ k → k ≤ length (h .leaders .log t) → Dec (k ≤ length (w .start)) → term-at (h .leaders .log t) k ≤ t
+        go k a b (yes c) = omega (arith, start-below k a c)
+        go k a b (no c) = omega (arith, lead .added k (omega arith) b)
+
+    -- an entry of the term itself was added by its leader,
+    pub own-part : (n : ℕ) → 1 ≤ n → term-at (h .leaders .log t) n ≡ t → length (w .start) < n
+    own-part n a e = go (decLe n (length (w .start)))
+      where
+        go : Dec (n ≤ length (w .start)) → length (w .start) < n
+        go (yes b) = absurd (omega (arith, start-below n a b))
+        go (no b) = omega arith
+
+    -- and the log descends: what it adds comes from itself
+    pub won-descends : Descends (h .leaders) (h .leaders .log t)
+    won-descends = record { at = λ k a b. go k a b (decLe k (length (w .start))) }
+      where
+        go : (k : ℕ) → 1 ≤ k → k ≤ length (h .leaders .log t) → Dec (k ≤ length (w .start)) → Comes (h .leaders) (h .leaders .log t) k
+        go k a b (yes e) =
+            let same = begins-term (lead .begins) k e in
+            let c = f .asked-descends t (w .box) (w .start) asked .at k a e in
+            record { won = rw same at (c .won); begins = rw (same, begins-same (lead .begins) k e) at (c .begins) }
+        go k a b (no e) =
+            let own = lead .added k (omega arith) b in
+            record { won = rw own w; begins = rw own (begins-take k (h .leaders .log t)) }
 
   -- terms never fall: up to index k a log is the log of its leader, which holds no term above
   pub never-fall : {log : List Entry} → Descends (h .leaders) log → (i k : ℕ) → i ≤ k → k ≤ length log → term-at log i ≤ term-at log k

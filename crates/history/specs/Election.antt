@@ -1,37 +1,35 @@
--- An election: a candidate's votes all count when it wins, for two majorities meet, so nobody has won the term before it. Assumes nothing.
-use Prim.Native.Nat.{ℕ, suc, _<_}
+-- An election: a candidate's votes all count where it has not won, and nobody else who could have won its term has: two who stand are one.
+-- Assumes nothing.
+use Prim.Native.Nat.{ℕ, suc}
 use native.Mathlib.Omega.{arith}
 use mathlib.Core.List.{List}
-use mathlib.Core.Logic.{_⊎_, inl, inr}
+use mathlib.Core.Logic.{inr}
 use lib.ListN.{length}
 use Rattle.frames.specs.declared.Entry.{Entry}
-use Rattle.history.specs.Most.{Most, most-map}
+use Rattle.history.specs.Conf.{Agree, agree-map}
+use Rattle.history.specs.InForce.{Rule, in-force}
 use Rattle.history.specs.History.{History, Won, Granted, Facts}
-use Rattle.history.specs.Book.{unwon}
+use Rattle.history.specs.LeaderComplete.{Standing, won-standing, one-standing}
 use Rattle.history.specs.Grow.{asks-now, votes-now, grants-now, acks-now, raised, stood, gave, moved}
-use Rattle.history.specs.Steps.{asks, gives, wins, wins-facts}
-use Rattle.history.specs.Later.{Later, wins-later}
+use Rattle.history.specs.Steps.{asks, gives, wins, wins-facts, wins-later}
+use Rattle.history.specs.Later.{Later}
 use Rattle.history.specs.Told.{Vote}
 
--- a vote that is given is granted, or the term was won
-gave-vote : (i t c : ℕ) (h : History) → Dec (Won (h .leaders) t) → Vote (gave i t c h) i t c
+-- a vote that is given is granted, unless the candidate has won
+gave-vote : (i t c : ℕ) (h : History) → Vote (gave i t c h) i t c
 unfolding gave
-gave-vote i t c h k = record { voted = inr votes-now; counts = go k }
-  where
-    go : Dec (Won (h .leaders) t) → Won (h .leaders) t ⊎ Granted (gave i t c h .granted) i t c
-    go (yes w) = inl w
-    go (no n) = inr (record { log = h .log i; has = inr (grants-now n) })
+gave-vote i t c h = record { voted = inr votes-now; counts = λ free. record { log = h .log i; has = inr (grants-now free) } }
 
 -- What a box that gives its vote says yes to.
-pub gives-vote : {members : ℕ} {h : History} (i t c : ℕ) → Facts members h → Vote (gives i t c h) i t c
-unfolding gives raised
-gives-vote {h = h} i t c f = gave-vote i t c (raised i t h) (f .known t)
+pub gives-vote : (i t c : ℕ) (h : History) → Vote (gives i t c h) i t c
+unfolding gives
+gives-vote i t c h = gave-vote i t c (raised i t h)
 
-module _ {members : ℕ} {h : History} (c : ℕ) (f : Facts members h) where
+module _ {rule : Rule} {h : History} (c : ℕ) (f : Facts rule h) where
   -- A candidate has its own vote,
   pub asks-vote : Vote (asks c h) c (suc (h .term c)) c
-  unfolding asks stood
-  asks-vote = gave-vote c (suc (h .term c)) c (stood c (suc (h .term c)) h) (f .known (suc (h .term c)))
+  unfolding asks
+  asks-vote = gave-vote c (suc (h .term c)) c (stood c (suc (h .term c)) h)
 
   -- has asked with its log,
   pub asks-asked : asks c h .asked (suc (h .term c)) c (h .log c)
@@ -45,28 +43,24 @@ module _ {members : ℕ} {h : History} (c : ℕ) (f : Facts members h) where
       omega (arith, f .asked-reached (suc (h .term c)) c start (f .won-asked (suc (h .term c)) c start w))
 
 -- What an election leaves behind.
-pub record Elected (members : ℕ) (h : History) (c : ℕ) : Type 0 where
-  pub facts : Facts members (wins c h)
+pub record Elected (rule : Rule) (h : History) (c : ℕ) : Type 0 where
+  pub facts : Facts rule (wins c h)
   pub later : Later h (wins c h)
   pub acked : wins c h .acked c (h .term c) (length (h .log c))
 
--- A candidate that has not won, and to which a majority said yes, wins.
-pub elected : {members : ℕ} {h : History} (c : ℕ) → members < 128 → Facts members h → h .asked (h .term c) c (h .log c)
-    → ((start : List Entry) → h .leaders .won (h .term c) c start → ⊥) → Most members (λ j. Vote h j (h .term c) c) → Elected members h c
+-- A candidate that has not won, and to which those who agree under its configuration said yes, wins.
+pub elected : {rule : Rule} {h : History} (c : ℕ) → Facts rule h → h .asked (h .term c) c (h .log c)
+    → ((start : List Entry) → h .leaders .won (h .term c) c start → ⊥)
+    → Agree (in-force rule (h .log c) (length (h .log c))) (λ j. Vote h j (h .term c) c) → Elected rule h c
 unfolding wins moved
-elected {members} {h} c small f a not m =
-    record {
-      facts = wins-facts c f free a (most-map granted m);
-      later = wins-later c f free;
-      acked = inr acks-now;
-    }
+elected {rule} {h} c f a not m =
+    record { facts = wins-facts c f free a grants; later = wins-later c f free; acked = inr acks-now }
   where
-    free : Won (h .leaders) (h .term c) → ⊥
-    free = unwon small f (h .term c) c (most-map (λ j v. v .voted) m) not
+    grants : Agree (in-force rule (h .log c) (length (h .log c))) (λ j. Granted (h .granted) j (h .term c) c)
+    grants = agree-map (λ j v. v .counts not) m
 
-    granted : (j : ℕ) → Vote h j (h .term c) c → Granted (h .granted) j (h .term c) c
-    granted j v = go (v .counts)
-      where
-        go : Won (h .leaders) (h .term c) ⊎ Granted (h .granted) j (h .term c) c → Granted (h .granted) j (h .term c) c
-        go (inl w) = absurd (free w)
-        go (inr g) = g
+    mine : Standing rule h (h .term c) c (h .log c)
+    mine = record { asked = a; agree = grants }
+
+    free : Won (h .leaders) (h .term c) → ⊥
+    free w = not (w .start) (rw (one-standing f (won-standing f (w .has)) mine) at (w .has))

@@ -7,8 +7,10 @@ use mathlib.Core.List.{List, [], _∷_}
 use mathlib.Core.Logic.{inl, inr}
 use Rattle.frames.specs.declared.Entry.{Entry}
 use Rattle.history.specs.Most.{Most}
+use Rattle.history.specs.InForce.{fixed, agree-fixed}
 use Rattle.history.specs.History.{History, Won, Granted, Facts}
 use Rattle.history.specs.Grow.{asks-now, grants-now, acks-now}
+use Rattle.history.specs.GrowLeaders.{may-fixed}
 use Rattle.history.specs.Steps.{asks, asks-facts, gives, gives-facts, wins, wins-facts, adds, adds-facts, accepts, accepts-facts}
 use Rattle.history.specs.Example.{steps, added-1, added-1-facts, boxes-2-3}
 
@@ -33,7 +35,7 @@ abbrev taken-3 : History
 taken-3 = accepts 1 2 0 (second ∷ []) added-3
 
 -- Box 3 may give its vote,
-voted-3-facts : Facts 7 voted-3
+voted-3-facts : Facts (fixed 7) voted-3
 unfolding steps
 voted-3-facts =
     let f = asks-facts 2 added-1-facts in
@@ -49,23 +51,26 @@ unwon-3 w = go (w .has)
     go (inl v) = v
     go (inr q) = omega (arith, q .term)
 
+unwon-3-by : (start : List Entry) → voted-3 .leaders .won 2 2 start → ⊥
+unwon-3-by start w = unwon-3 (record { box = 2; start = start; has = w })
+
 -- boxes 2 and 3 granted,
 granted-3 : Most 7 (λ j. Granted (voted-3 .granted) j 2 2)
 unfolding steps
 granted-3 =
-    boxes-2-3 (λ j. Granted (voted-3 .granted) j 2 2)
-    (record { log = []; has = inl (inr (grants-now unwon-3)) })
-    (record { log = []; has = inr (grants-now unwon-3) })
+    boxes-2-3 7 refl (λ j. Granted (voted-3 .granted) j 2 2)
+    (record { log = []; has = inl (inr (grants-now unwon-3-by)) })
+    (record { log = []; has = inr (grants-now unwon-3-by) })
 
 -- so box 2 wins and adds its entry.
-added-3-facts : Facts 7 added-3
+added-3-facts : Facts (fixed 7) added-3
 unfolding steps
 added-3-facts =
-    adds-facts 2 second (wins-facts 2 voted-3-facts unwon-3 (inr asks-now) granted-3)
-    (record { box = 2; start = []; has = inr asks-now }) refl refl
+    adds-facts 2 second (wins-facts 2 voted-3-facts unwon-3 (inr asks-now) (agree-fixed 7 _ _ (omega arith) granted-3))
+    (record { box = 2; start = []; has = inr asks-now }) refl refl (may-fixed 7 _ _)
 
 -- The facts hold, box 1 had acknowledged its entry of term 1, and no longer has it.
-pub lost-facts : Facts 7 taken-3
+pub lost-facts : Facts (fixed 7) taken-3
 unfolding steps
 lost-facts =
     accepts-facts 1 2 {index = 0} {prior = 0} {es = second ∷ []} added-3-facts (omega arith)

@@ -49,7 +49,7 @@ stood c t h =
       log = h .log;
     }
 
--- Box i gives its vote of term t to c. It is granted if nobody has won the term.
+-- Box i gives its vote of term t to c. It is granted if c has not won the term.
 pub record Votes (i t c : ℕ) (j s d : ℕ) : Type 0 where
   pub box : j ≡ i
   pub term : s ≡ t
@@ -59,14 +59,14 @@ pub record Votes (i t c : ℕ) (j s d : ℕ) : Type 0 where
 pub record Granting (l : Leaders) (i t c : ℕ) (own : List Entry) (j s d : ℕ) (log : List Entry) : Type 0 where
   pub vote : Votes i t c j s d
   pub whole : log ≡ own
-  pub unwon : Won l t → ⊥
+  pub unwon : (start : List Entry) → l .won t c start → ⊥
 
 -- as it does now
 pub votes-now : {i t c : ℕ} → Votes i t c i t c
 votes-now = record { box = refl; term = refl; chosen = refl }
 
--- where nobody has won
-pub grants-now : {l : Leaders} {i t c : ℕ} {own : List Entry} → (Won l t → ⊥) → Granting l i t c own i t c own
+-- where c has not won
+pub grants-now : {l : Leaders} {i t c : ℕ} {own : List Entry} → ((start : List Entry) → l .won t c start → ⊥) → Granting l i t c own i t c own
 grants-now free = record { vote = votes-now; whole = refl; unwon = free }
 
 -- the history in which it has

@@ -10,12 +10,14 @@ use lib.ListN.{take}
 use lib.Seq.{take-take}
 use Rattle.frames.specs.declared.Entry.{Entry}
 use Rattle.history.specs.Begins.{Begins, begins-trans, begins-take, begins-known}
-use Rattle.history.specs.History.{History, Won, Descends, Within, Reaches, Keeps, kept, lost, Facts}
-use Rattle.history.specs.Descent.{won-within, won-descends, within-more}
+use Rattle.history.specs.History.{History, Won, Descends, Within, Reaches, Keeps, kept, lost, Retains, Facts}
+use Rattle.history.specs.Descent.{within-more, won-within, won-descends}
 use Rattle.history.specs.Put.{put-same, put-both, put-all}
 use Rattle.history.specs.Grow.{raised, moved, keeps-more}
-use Rattle.history.specs.GrowVotes.{raised-facts}
 use Rattle.history.specs.Join.{Joins, joins-keeps, joins-first, joins-descends, joins-within}
+use Rattle.history.specs.InForce.{Rule}
+use Rattle.history.specs.Later.{chained-later, moved-later}
+use Rattle.history.specs.GrowVotes.{raised-facts}
 
 -- What is to be shown of a box that moves on to term s with a log, and acknowledges index m.
 pub record MovesOn (h : History) (i s m : ℕ) (next : List Entry) : Type 0 where
@@ -27,17 +29,20 @@ pub record MovesOn (h : History) (i s m : ℕ) (next : List Entry) : Type 0 wher
   pub keeps : (t n : ℕ) → h .acked i t n → Keeps (h .leaders) t n (suc s) next
 
 -- A box moves on. What it granted it granted in terms that it had reached, so its new acknowledgement is of none below them.
-pub moved-facts : {members : ℕ} {h : History} (i s m : ℕ) (next : List Entry) → Facts members h → MovesOn h i s m next
-    → Facts members (moved i s m next h)
+pub moved-facts : {rule : Rule} {h : History} (i s m : ℕ) (next : List Entry) → Facts rule h → MovesOn h i s m next
+    → Facts rule (moved i s m next h)
 unfolding moved raised
-moved-facts {members} {h} i s m next f x =
+moved-facts {rule} {h} i s m next f x =
     let up = raised-facts i s f (x .higher) in
     record {
       one-vote = f .one-vote;
       granted-voted = f .granted-voted;
       asked-once = f .asked-once;
+      asked-descends = f .asked-descends;
+      asked-below = f .asked-below;
       fair = f .fair;
       won-asked = f .won-asked;
+      won-once = f .won-once;
       winning = f .winning;
       leading = f .leading;
       granted-descends = f .granted-descends;
@@ -50,7 +55,7 @@ moved-facts {members} {h} i s m next f x =
       asked-reached = up .asked-reached;
       voted-reached = up .voted-reached;
       acked-reached = λ j t n a. reached j t n (up .acked-reached j t n) a;
-      known = f .known;
+      chain = λ t c start w. chained-later f (moved-later i s m next h (x .higher)) (f .chain t c start w);
     }
   where
     more : History
@@ -67,7 +72,7 @@ moved-facts {members} {h} i s m next f x =
     lower j t n k (inl a) l = inl (f .lower j t n k a l)
     lower j t n k (inr q) l = inr (record { box = q .box; term = q .term; index = omega (arith, q .index) })
 
-    keeping : (j t n u c : ℕ) (log : List Entry) → more .acked j t n → h .granted j u c log → t < u → Keeps (h .leaders) t n u log
+    keeping : (j t n u c : ℕ) (log : List Entry) → more .acked j t n → h .granted j u c log → t < u → Retains (h .leaders) t n u c log
     keeping j t n u c log (inl a) g l = f .keeping j t n u c log a g l
     keeping j t n u c log (inr q) g l =
         absurd (omega (arith, f .voted-reached j u c (f .granted-voted j u c log g), ap (h .term) (q .box), q .term, x .higher))
@@ -87,7 +92,7 @@ moved-facts {members} {h} i s m next f x =
     reached j t n old (inl a) = old a
     reached j t n old (inr q) = rw (q .term, q .box, put-same (h .term) i s) (le-refl s)
 
-module _ {members : ℕ} {h : History} (f : Facts members h) where
+module _ {rule : Rule} {h : History} (f : Facts rule h) where
   -- "what is cut differs from the sender's log, and the sender's log begins with B_u": what a box keeps of term t it keeps in the joined log,
   -- or the sender's term was won with a log that lacks it
   joined-keeps : {i s m : ℕ} {next : List Entry} → Won (h .leaders) s → h .term i ≤ s → Joins (h .log i) (h .leaders .log s) m next
@@ -117,7 +122,7 @@ module _ {members : ℕ} {h : History} (f : Facts members h) where
 
   -- A box joins the first m of the log of a leader whose term it has not passed, and acknowledges m.
   pub accepted-facts : (i s m : ℕ) (next : List Entry) → h .term i ≤ s → Reaches (h .leaders) s m → Joins (h .log i) (h .leaders .log s) m next
-      → Facts members (moved i s m next h)
+      → Facts rule (moved i s m next h)
   accepted-facts i s m next l r x =
       moved-facts i s m next f
       (record {

@@ -6,23 +6,30 @@ use native.Mathlib.Omega.{arith}
 use mathlib.Core.Path.{_≡_, sym, ap, _∙_}
 use mathlib.Core.List.{List}
 use mathlib.Core.Logic.{_⊎_, inl, inr}
+use lib.ListN.{length}
 use Rattle.frames.specs.declared.Entry.{Entry}
-use Rattle.history.specs.Most.{most-map}
-use Rattle.history.specs.History.{Leaders, History, Won, Fair, Descends, Keeps, kept, lost, Facts}
+use Rattle.raft.specs.Record.{term-at}
+use Rattle.history.specs.History.{Leaders, History, Fair, Descends, Keeps, kept, lost, Retains, retains, beaten, Facts}
 use Rattle.history.specs.Descent.{within-more}
 use Rattle.history.specs.Put.{put, put-same, put-up}
 use Rattle.history.specs.Grow.{raised, Asks, stood, Votes, gave, keeps-more}
+use Rattle.history.specs.Later.{chained-later, raised-later, stood-later, gave-later}
+use Rattle.history.specs.Conf.{agree-map}
+use Rattle.history.specs.InForce.{Rule}
 
 -- A box takes a higher term: what it did, it did in a term that it has reached.
-pub raised-facts : {members : ℕ} {h : History} (i s : ℕ) → Facts members h → h .term i ≤ s → Facts members (raised i s h)
+pub raised-facts : {rule : Rule} {h : History} (i s : ℕ) → Facts rule h → h .term i ≤ s → Facts rule (raised i s h)
 unfolding raised
-raised-facts {members} {h} i s f l =
+raised-facts {rule} {h} i s f l =
     record {
       one-vote = f .one-vote;
       granted-voted = f .granted-voted;
       asked-once = f .asked-once;
+      asked-descends = f .asked-descends;
+      asked-below = f .asked-below;
       fair = f .fair;
       won-asked = f .won-asked;
+      won-once = f .won-once;
       winning = f .winning;
       leading = f .leading;
       granted-descends = f .granted-descends;
@@ -35,23 +42,26 @@ raised-facts {members} {h} i s f l =
       asked-reached = λ t c log a. omega (arith, up c, f .asked-reached t c log a);
       voted-reached = λ j t c v. omega (arith, up j, f .voted-reached j t c v);
       acked-reached = λ j t n a. omega (arith, up j, f .acked-reached j t n a);
-      known = f .known;
+      chain = λ t c start w. chained-later f (raised-later i s h l) (f .chain t c start w);
     }
   where
     up : (j : ℕ) → h .term j ≤ put (h .term) i s j
     up = put-up (h .term) i s l
 
--- A box becomes candidate of a term that it had not reached: it had not asked in it.
-pub stood-facts : {members : ℕ} {h : History} (c t : ℕ) → Facts members h → h .term c < t → Facts members (stood c t h)
+-- A box becomes candidate of a term that it had not reached: it had not asked in it, and its log holds no such term.
+pub stood-facts : {rule : Rule} {h : History} (c t : ℕ) → Facts rule h → h .term c < t → Facts rule (stood c t h)
 unfolding stood raised
-stood-facts {members} {h} c t f l =
+stood-facts {rule} {h} c t f l =
     let r = raised-facts c t f (omega arith) in
     record {
       one-vote = r .one-vote;
       granted-voted = r .granted-voted;
       asked-once = once;
+      asked-descends = descends;
+      asked-below = below;
       fair = λ j s d log g. fair (f .fair j s d log g);
       won-asked = λ s d start w. inl (f .won-asked s d start w);
+      won-once = r .won-once;
       winning = r .winning;
       leading = r .leading;
       granted-descends = r .granted-descends;
@@ -64,7 +74,7 @@ stood-facts {members} {h} c t f l =
       asked-reached = λ s d log a. reached (r .asked-reached s d log) a;
       voted-reached = r .voted-reached;
       acked-reached = r .acked-reached;
-      known = r .known;
+      chain = λ s d start w. chained-later f (stood-later c t h (omega arith)) (f .chain s d start w);
     }
   where
     once : (s d : ℕ) (log other : List Entry) → stood c t h .asked s d log → stood c t h .asked s d other → log ≡ other
@@ -72,6 +82,17 @@ stood-facts {members} {h} c t f l =
     once s d log other (inl a) (inr q) = absurd (omega (arith, f .asked-reached s d log a, q .term, ap (h .term) (q .box)))
     once s d log other (inr q) (inl b) = absurd (omega (arith, f .asked-reached s d other b, q .term, ap (h .term) (q .box)))
     once s d log other (inr q) (inr x) = q .whole ∙ sym (x .whole)
+
+    descends : (s d : ℕ) (log : List Entry) → stood c t h .asked s d log → Descends (h .leaders) log
+    descends s d log (inl a) = f .asked-descends s d log a
+    descends s d log (inr q) = rw (q .whole) (f .descends c)
+
+    low : (k : ℕ) → 1 ≤ k → k ≤ length (h .log c) → term-at (h .log c) k < t
+    low k a b = omega (arith, f .within c .at k a b)
+
+    below : (s d : ℕ) (log : List Entry) → stood c t h .asked s d log → (k : ℕ) → 1 ≤ k → k ≤ length log → term-at log k < s
+    below s d log (inl a) = f .asked-below s d log a
+    below s d log (inr q) = rw (q .whole, q .term) low
 
     fair : {s d : ℕ} {log : List Entry} → Fair (h .asked) s d log → Fair (λ s d log. h .asked s d log ⊎ Asks c t (h .log c) s d log) s d log
     fair a = record { log = a .log; has = inl (a .has); newer = a .newer }
@@ -81,35 +102,39 @@ stood-facts {members} {h} c t f l =
     reached old (inl a) = old a
     reached {s} {d} old (inr q) = rw (q .term, q .box, put-same (h .term) c t) (le-refl t)
 
--- A term below the box's own was lost, where nobody has won the box's own.
-below-unwon : {l : Leaders} {t n s : ℕ} {log : List Entry} → Keeps l t n (suc s) log → (Won l s → ⊥) → Keeps l t n s log
-below-unwon {l} {t} {n} {s} {log} (kept p) unwon = kept p
-below-unwon {l} {t} {n} {s} {log} (lost x) unwon = go (decLt (x .term) s)
+-- what a box keeps up to its own term, where c has not won that: a lower term was lost, or somebody else won this one
+not-by : {l : Leaders} {t n s c : ℕ} {log : List Entry} → Keeps l t n (suc s) log → ((start : List Entry) → l .won s c start → ⊥)
+    → Retains l t n s c log
+not-by (kept p) unwon = retains (kept p)
+not-by {l} {t} {n} {s} {c} {log} (lost x) unwon = go (decLt (x .term) s)
   where
-    go : Dec (x .term < s) → Keeps l t n s log
+    go : Dec (x .term < s) → Retains l t n s c log
     go (yes b) =
-        lost
-        (record { term = x .term; above = x .above; below = b; box = x .box; start = x .start; won = x .won; lacks = x .lacks })
-    go (no b) = absurd (unwon (rw same at w))
+        retains (lost
+        (record { term = x .term; above = x .above; below = b; box = x .box; start = x .start; won = x .won; lacks = x .lacks }))
+    go (no b) = beaten (x .box) (x .start) w (λ e. unwon (x .start) (rw e at w)) (x .lacks)
       where
         same : x .term ≡ s
         same = omega (arith, x .below)
 
-        w : Won l (x .term)
-        w = record { box = x .box; start = x .start; has = x .won }
+        w : l .won s (x .box) (x .start)
+        w = rw same at (x .won)
 
 -- A box votes in its term, for nobody else than before, and for a log at least as new as its own.
-pub gave-facts : {members : ℕ} {h : History} (i t c : ℕ) → Facts members h → h .term i ≡ t → ((d : ℕ) → h .voted i t d → d ≡ c)
-    → Fair (h .asked) t c (h .log i) → Facts members (gave i t c h)
+pub gave-facts : {rule : Rule} {h : History} (i t c : ℕ) → Facts rule h → h .term i ≡ t → ((d : ℕ) → h .voted i t d → d ≡ c)
+    → Fair (h .asked) t c (h .log i) → Facts rule (gave i t c h)
 unfolding gave
-gave-facts {members} {h} i t c f now alone new =
+gave-facts {rule} {h} i t c f now alone new =
     record {
       one-vote = one;
       granted-voted = voted;
       asked-once = f .asked-once;
+      asked-descends = f .asked-descends;
+      asked-below = f .asked-below;
       fair = fair;
       won-asked = f .won-asked;
-      winning = λ s d start w. most-map (λ j g. record { log = g .log; has = inl (g .has) }) (f .winning s d start w);
+      won-once = f .won-once;
+      winning = λ s d start w. agree-map (λ j g. record { log = g .log; has = inl (g .has) }) (f .winning s d start w);
       leading = f .leading;
       granted-descends = descends;
       descends = f .descends;
@@ -121,7 +146,7 @@ gave-facts {members} {h} i t c f now alone new =
       asked-reached = f .asked-reached;
       voted-reached = reached;
       acked-reached = f .acked-reached;
-      known = f .known;
+      chain = λ s d start w. chained-later f (gave-later i t c h) (f .chain s d start w);
     }
   where
     more : History
@@ -148,9 +173,10 @@ gave-facts {members} {h} i t c f now alone new =
     descends j s d log (inl a) = f .granted-descends j s d log a
     descends j s d log (inr g) = rw (g .whole) (f .descends i)
 
-    keeping : (j u n s d : ℕ) (log : List Entry) → h .acked j u n → more .granted j s d log → u < s → Keeps (h .leaders) u n s log
+    keeping : (j u n s d : ℕ) (log : List Entry) → h .acked j u n → more .granted j s d log → u < s → Retains (h .leaders) u n s d log
     keeping j u n s d log a (inl g) l = f .keeping j u n s d log a g l
-    keeping j u n s d log a (inr g) l = rw (g .vote .term, g .whole) (below-unwon (rw now at (f .keeps i u n (rw (g .vote .box) at a))) (g .unwon))
+    keeping j u n s d log a (inr g) l =
+        rw (g .vote .term, g .vote .chosen, g .whole) (not-by (rw now at (f .keeps i u n (rw (g .vote .box) at a))) (g .unwon))
 
     reached : (j s d : ℕ) → more .voted j s d → s ≤ h .term j
     reached j s d (inl v) = f .voted-reached j s d v

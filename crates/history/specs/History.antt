@@ -9,7 +9,9 @@ use Rattle.frames.specs.declared.Entry.{Entry}
 use Rattle.raft.specs.Newer.{as-new}
 use Rattle.raft.specs.Record.{term-at}
 use Rattle.history.specs.Begins.{Begins}
-use Rattle.history.specs.Most.{Most}
+use Rattle.history.specs.Conf.{Agree, Extends}
+use Rattle.history.specs.Alike.{Alike}
+use Rattle.history.specs.InForce.{Rule, nearest, in-force}
 
 -- `won t c B`: box c won term t with log B. `log t`: the leader's log of term t; it starts as B and only grows, by entries of term t.
 pub record Leaders : Type 1 where
@@ -17,7 +19,7 @@ pub record Leaders : Type 1 where
   pub log : ℕ → List Entry
 
 -- `asked t c B`: box c became candidate of term t with log B. `voted j t c`: box j gave its vote of term t to c. `granted j t c V`: it did
--- so while its own log was V and before term t was won by anyone. `acked j t n`: box j said yes to index n, or a larger one, in term t; the
+-- so while its own log was V and before c had won term t. `acked j t n`: box j said yes to index n, or a larger one, in term t; the
 -- leader acks its own last index. `term j` and `log j`: where box j stands.
 pub record History : Type 1 where
   pub asked : (t c : ℕ) → List Entry → Type 0
@@ -64,11 +66,9 @@ pub record Descends (l : Leaders) (log : List Entry) : Type 0 where
 pub record Within (bound : ℕ) (log : List Entry) : Type 0 where
   pub at : (k : ℕ) → 1 ≤ k → k ≤ length log → term-at log k ≤ bound
 
--- A won term's log: it begins with the log that won, whose terms are below it, and what it adds has the term itself.
+-- A won term's log: it begins with the log that won, and what it adds has the term itself.
 pub record Leading (l : Leaders) (t : ℕ) (start : List Entry) : Type 0 where
   pub begins : Begins start (l .log t)
-  pub descends : Descends l start
-  pub below : (k : ℕ) → 1 ≤ k → k ≤ length start → term-at start k < t
   pub added : (k : ℕ) → length start < k → k ≤ length (l .log t) → term-at (l .log t) k ≡ t
 
 -- What is acknowledged is there.
@@ -91,35 +91,66 @@ pub data Keeps (l : Leaders) (t n bound : ℕ) (log : List Entry) : Type 0 where
   kept : Begins (take n (l .log t)) log → Keeps l t n bound log
   lost : Lost l t n bound → Keeps l t n bound log
 
+-- The log of t's leader up to an index.
+abbrev pub first-of : History → ℕ → ℕ → List Entry
+first-of h t n = take n (h .leaders .log t)
+
+-- (t, n) is committed, with m entries in the log of t's leader: the entry at n has term t, and those who agree under the configuration in force at m
+-- acknowledged it.
+pub record Committed (rule : Rule) (h : History) (t n m : ℕ) : Type 0 where
+  pub least : 1 ≤ n
+  pub within : n ≤ m
+  pub reach : m ≤ length (h .leaders .log t)
+  pub own : term-at (h .leaders .log t) n ≡ t
+  pub agree : Agree (in-force rule (h .leaders .log t) m) (λ j. h .acked j t n)
+
+-- What term u committed with m entries came before entry k + 1 of term t.
+pub data Before (u m t k : ℕ) : Type 0 where
+  lower : u < t → Before u m t k
+  sooner : u ≡ t → m ≤ k → Before u m t k
+
+-- Index p of a log is the start, or was committed before entry k + 1 of term t.
+pub data Settled (rule : Rule) (h : History) (t k p : ℕ) (log : List Entry) : Type 0 where
+  none : p ≡ 0 → Settled rule h t k p log
+  by : {u n m : ℕ} → Committed rule h u n m → p ≤ n → Alike p log (h .leaders .log u) → Before u m t k → Settled rule h t k p log
+
+-- Entry k + 1 of a log, of term t, is a configuration that may be there.
+pub record Follows (rule : Rule) (h : History) (t k : ℕ) (log : List Entry) : Type 0 where
+  pub extends : Extends (in-force rule log k) (in-force rule log (suc k))
+  pub settled : Settled rule h t k (nearest rule log k) log
+
+-- In a leader's log, from the log that won on, each is so.
+pub record Chained (rule : Rule) (h : History) (t : ℕ) (start log : List Entry) : Type 0 where
+  pub at : (k : ℕ) → length start ≤ k → k < length log → nearest rule log (suc k) ≡ suc k → Follows rule h t k log
+
+-- What a box keeps when it votes for c in term s: as `Keeps`, or somebody else won term s itself without it.
+pub data Retains (l : Leaders) (t n s c : ℕ) (log : List Entry) : Type 0 where
+  retains : Keeps l t n s log → Retains l t n s c log
+  beaten : (d : ℕ) (start : List Entry) → l .won s d start → (d ≡ c → ⊥) → (Begins (take n (l .log t)) start → ⊥) → Retains l t n s c log
+
 -- ---- the facts
 
--- Each is stable: more history keeps it true (Steps).
-pub record Facts (members : ℕ) (h : History) : Type 0 where
-  -- 1. "One vote: voted j t c and voted j t c' give c = c'." What is granted is voted.
+pub record Facts (rule : Rule) (h : History) : Type 0 where
   pub one-vote : (j t c d : ℕ) → h .voted j t c → h .voted j t d → c ≡ d
   pub granted-voted : (j t c : ℕ) (log : List Entry) → h .granted j t c log → h .voted j t c
-  -- 2. "Winning: won t c B comes with a majority of boxes j, each with some granted j t c V_j, where B is at least as new as V_j": B is what c
-  -- asked with, once, and a grant is fair to that.
   pub asked-once : (t c : ℕ) (log other : List Entry) → h .asked t c log → h .asked t c other → log ≡ other
+  pub asked-descends : (t c : ℕ) (log : List Entry) → h .asked t c log → Descends (h .leaders) log
+  pub asked-below : (t c : ℕ) (log : List Entry) → h .asked t c log → (k : ℕ) → 1 ≤ k → k ≤ length log → term-at log k < t
   pub fair : (j t c : ℕ) (log : List Entry) → h .granted j t c log → Fair (h .asked) t c log
   pub won-asked : (t c : ℕ) (start : List Entry) → h .leaders .won t c start → h .asked t c start
-  pub winning : (t c : ℕ) (start : List Entry) → h .leaders .won t c start → Most members (λ j. Granted (h .granted) j t c)
-  -- 3. "Descent: every log there is .. Terms never fall; in B of term t they are below t; what LL t adds to B has term t." A candidate's log is its
-  -- present log; that terms never fall follows.
+  pub won-once : (t c d : ℕ) (start other : List Entry) → h .leaders .won t c start → h .leaders .won t d other → c ≡ d
+  pub winning : (t c : ℕ) (start : List Entry) → h .leaders .won t c start
+      → Agree (in-force rule start (length start)) (λ j. Granted (h .granted) j t c)
   pub leading : (t c : ℕ) (start : List Entry) → h .leaders .won t c start → Leading (h .leaders) t start
   pub granted-descends : (j t c : ℕ) (log : List Entry) → h .granted j t c log → Descends (h .leaders) log
   pub descends : (j : ℕ) → Descends (h .leaders) (h .log j)
   pub within : (j : ℕ) → Within (h .term j) (h .log j)
-  -- 4. "acked j t n: t was won, and n is at most the length of LL t." Who said yes to an index said yes to those before it.
   pub reaches : (j t n : ℕ) → h .acked j t n → Reaches (h .leaders) t n
   pub lower : (j t n m : ℕ) → h .acked j t n → m ≤ n → h .acked j t m
-  -- 5. "Keeping: acked j t n, granted j t' c V, t < t'. Then the first n of LL t are a beginning of V, or some u with t < u < t' was won with a
-  -- B_u that does not begin with them. The same for a box's present log, with .. u <= its term."
-  pub keeping : (j t n s c : ℕ) (log : List Entry) → h .acked j t n → h .granted j s c log → t < s → Keeps (h .leaders) t n s log
+  pub keeping : (j t n s c : ℕ) (log : List Entry) → h .acked j t n → h .granted j s c log → t < s → Retains (h .leaders) t n s c log
   pub keeps : (j t n : ℕ) → h .acked j t n → Keeps (h .leaders) t n (suc (h .term j)) (h .log j)
-  -- 6. A box asks, votes and acknowledges in a term that it has reached: "no box acks term t once its own term is above t".
   pub asked-reached : (t c : ℕ) (log : List Entry) → h .asked t c log → t ≤ h .term c
   pub voted-reached : (j t c : ℕ) → h .voted j t c → t ≤ h .term j
   pub acked-reached : (j t n : ℕ) → h .acked j t n → t ≤ h .term j
-  -- 7. Whether a term was won is known, so a vote is granted or late.
-  pub known : (t : ℕ) → Dec (Won (h .leaders) t)
+  -- "A change while the last configuration is joint or uncommitted is refused"; the new one is added once "a leader's commit covers the joint entry"
+  pub chain : (t c : ℕ) (start : List Entry) → h .leaders .won t c start → Chained rule h t start (h .leaders .log t)

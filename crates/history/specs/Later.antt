@@ -1,20 +1,21 @@
--- A later history: it has all that the earlier one had, so what was committed stays committed, and what was covered covered. Assumes nothing.
-use Prim.Native.Nat.{ℕ, suc, _≤_, _<_}
+-- A later history: it has all that the earlier one had, so what was committed stays committed, and a configuration that may be there may stay.
+-- Assumes nothing.
+use Prim.Native.Nat.{ℕ, _≤_}
 use native.Mathlib.Nat.{le-refl, le-trans}
 use native.Mathlib.Omega.{arith}
-use mathlib.Core.Path.{_≡_, sym, _∙_}
+use mathlib.Core.Path.{sym, subst, _∙_}
 use mathlib.Core.List.{List}
 use mathlib.Core.Logic.{inl}
 use Rattle.frames.specs.declared.Entry.{Entry}
-use Rattle.history.specs.Begins.{begins-self, begins-trans, begins-term}
-use Rattle.history.specs.Most.{most-map}
-use Rattle.history.specs.History.{Leaders, History, Won, Facts}
-use Rattle.history.specs.LeaderComplete.{Committed, committed-reaches}
+use Rattle.history.specs.Begins.{begins-self, begins-trans, begins-long, begins-term}
+use Rattle.history.specs.Conf.{Agree, agree-map}
+use Rattle.history.specs.Alike.{alike-both, begins-alike}
+use Rattle.history.specs.InForce.{Rule, in-force-same}
+use Rattle.history.specs.History.{Leaders, History, Committed, Settled, none, by, Chained, Facts}
+use Rattle.history.specs.Lineage.{committed-reaches}
 use Rattle.history.specs.Book.{Covered, nothing, written}
 use Rattle.history.specs.Put.{put-up}
 use Rattle.history.specs.Grow.{raised, stood, gave, with-leaders, moved, Grows, won-grows, first-grows}
-use Rattle.history.specs.GrowLeaders.{winner-grows, longer-grows}
-use Rattle.history.specs.Steps.{asks, gives, wins, adds, accepts}
 
 -- All that happened has happened, leaders' logs only grew, and no box went back in its term.
 pub record Later (h more : History) : Type 0 where
@@ -59,21 +60,35 @@ later-trans p q =
 
 -- ---- what stays
 
-module _ {members : ℕ} {h more : History} (small : members < 128) (f : Facts members h) (later : Later h more) where
-  -- what is committed stays committed: its leader's log begins as it did
-  pub committed-later : {t n : ℕ} → Committed members h t n → Committed members more t n
-  committed-later {t} {n} m =
-      let r = committed-reaches small f m in
+module _ {rule : Rule} {h more : History} (f : Facts rule h) (later : Later h more) where
+  -- its leader's log begins as it did, so the same is in force with as many entries
+  pub committed-later : {t n m : ℕ} → Committed rule h t n m → Committed rule more t n m
+  committed-later {t} {n} {m} x =
+      let g = later .leaders .log t (committed-reaches f x .won) in
       record {
-        least = m .least;
-        own = sym (begins-term (later .leaders .log t (r .won)) n (r .within)) ∙ m .own;
-        most = most-map (λ j a. later .acked j t n a) (m .most);
+        least = x .least;
+        within = x .within;
+        reach = omega (arith, x .reach, begins-long g);
+        own = sym (begins-term g n (omega (arith, x .within, x .reach))) ∙ x .own;
+        agree = subst (λ c. Agree c (λ j. more .acked j t n)) (in-force-same rule (begins-alike g m (x .reach)) m (le-refl _))
+            (agree-map (λ j a. later .acked j t n a) (x .agree));
       }
 
-  -- what is covered stays covered
-  pub covered-later : {bound : ℕ} {log : List Entry} → Covered members h bound log → Covered members more bound log
-  covered-later (nothing e) = nothing e
-  covered-later (written m a b) = written (committed-later m) a (rw (first-grows (later .leaders) (committed-reaches small f m)) at b)
+  pub settled-later : {t k p : ℕ} {log : List Entry} → Settled rule h t k p log → Settled rule more t k p log
+  settled-later (none e) = none e
+  settled-later {p = p} (by {u} x l a b) =
+      by (committed-later x) l
+      (alike-both a (begins-alike (later .leaders .log u (committed-reaches f x .won)) p (omega (arith, x .within, x .reach)))) b
+
+  pub chained-later : {t : ℕ} {start log : List Entry} → Chained rule h t start log → Chained rule more t start log
+  chained-later x =
+      record { at = λ k a b e. let y = x .at k a b e in record { extends = y .extends; settled = settled-later (y .settled) } }
+
+-- what is covered stays covered
+pub covered-later : {rule : Rule} {h more : History} {bound : ℕ} {log : List Entry} → Facts rule h → Later h more → Covered rule h bound log
+    → Covered rule more bound log
+covered-later f later (nothing e) = nothing e
+covered-later f later (written m a b) = written (committed-later f later m) a (rw (first-grows (later .leaders) (committed-reaches f m)) at b)
 
 -- ---- each step makes a later history
 
@@ -91,7 +106,7 @@ raised-later i s h l =
     }
 
 -- a candidate
-stood-later : (c t : ℕ) (h : History) → h .term c ≤ t → Later h (stood c t h)
+pub stood-later : (c t : ℕ) (h : History) → h .term c ≤ t → Later h (stood c t h)
 unfolding stood
 stood-later c t h l =
     record {
@@ -104,7 +119,7 @@ stood-later c t h l =
     }
 
 -- a vote
-gave-later : (i t c : ℕ) (h : History) → Later h (gave i t c h)
+pub gave-later : (i t c : ℕ) (h : History) → Later h (gave i t c h)
 unfolding gave
 gave-later i t c h =
     record {
@@ -117,7 +132,7 @@ gave-later i t c h =
     }
 
 -- a change of the leaders
-led-later : (h : History) {l : Leaders} → Grows (h .leaders) l → Later h (with-leaders l h)
+pub led-later : (h : History) {l : Leaders} → Grows (h .leaders) l → Later h (with-leaders l h)
 unfolding with-leaders
 led-later h g =
     record {
@@ -130,7 +145,7 @@ led-later h g =
     }
 
 -- a box that moves on
-moved-later : (i s m : ℕ) (next : List Entry) (h : History) → h .term i ≤ s → Later h (moved i s m next h)
+pub moved-later : (i s m : ℕ) (next : List Entry) (h : History) → h .term i ≤ s → Later h (moved i s m next h)
 unfolding moved
 moved-later i s m next h l =
     record {
@@ -141,28 +156,3 @@ moved-later i s m next h l =
       acked = λ j t n a. inl a;
       term = put-up (h .term) i s l;
     }
-
--- so: a candidate asks,
-pub asks-later : (c : ℕ) (h : History) → Later h (asks c h)
-unfolding asks
-asks-later c h = later-trans (stood-later c (suc (h .term c)) h (omega arith)) (gave-later c (suc (h .term c)) c _)
-
--- a box gives its vote,
-pub gives-later : (i t c : ℕ) (h : History) → h .term i ≤ t → Later h (gives i t c h)
-unfolding gives
-gives-later i t c h l = later-trans (raised-later i t h l) (gave-later i t c _)
-
--- a candidate wins,
-pub wins-later : {members : ℕ} {h : History} (c : ℕ) → Facts members h → (Won (h .leaders) (h .term c) → ⊥) → Later h (wins c h)
-unfolding wins with-leaders
-wins-later {h = h} c f unwon = later-trans (led-later h (winner-grows c f unwon)) (moved-later c (h .term c) _ _ _ (le-refl _))
-
--- its leader adds an entry,
-pub adds-later : {members : ℕ} {h : History} (c : ℕ) (e : Entry) → Facts members h → e .term ≡ h .term c → Later h (adds c e h)
-unfolding adds with-leaders
-adds-later {h = h} c e f own = later-trans (led-later h (longer-grows e f own)) (moved-later c (h .term c) _ _ _ (le-refl _))
-
--- a box accepts an append.
-pub accepts-later : (i s index : ℕ) (es : List Entry) (h : History) → h .term i ≤ s → Later h (accepts i s index es h)
-unfolding accepts
-accepts-later i s index es h l = moved-later i s _ _ h l

@@ -1,21 +1,28 @@
 -- The history of a park: what its boxes asked, voted, won and acknowledged, with no box's record in sight. In the order in which it is read:
--- what a beginning and a majority are, then History and its Facts, from which alone LeaderComplete and Book follow (one leader a term, one book,
--- every leader holds it); how a history grows (Put to Later), each step keeping the facts; what is handed out, what a sent frame tells, an
--- election, a leader's commit and the alarms, as `safety` needs them; and two examples, that the facts can hold and what they do not say.
+-- what a beginning and a majority are; configurations, and which is in force in a log (Conf to Views), by a rule: `fixed` where the membership is,
+-- `changing` where entries name it. Then History and its Facts, from which alone Lineage, LeaderComplete and Book follow (one leader a term, one
+-- book, every leader holds it); how a history grows (Put to Steps), each step keeping the facts; what is handed out, what a sent frame tells, an
+-- election, a leader's commit and the alarms, as `safety` needs them, which is at `fixed`; and three examples: that the facts can hold, what they
+-- do not say, and a change of membership.
 pub mod Begins
 pub mod Most
+pub mod Conf
+pub mod Alike
+pub mod InForce
+pub mod Views
 pub mod History
 pub mod Descent
+pub mod Lineage
 pub mod LeaderComplete
 pub mod Book
 pub mod Put
 pub mod Grow
+pub mod Later
 pub mod GrowVotes
 pub mod GrowLeaders
 pub mod Join
 pub mod GrowBoxes
 pub mod Steps
-pub mod Later
 pub mod Handed
 pub mod Told
 pub mod Election
@@ -23,3 +30,4 @@ pub mod Settled
 pub mod Alarms
 pub mod Example
 pub mod ExampleLost
+pub mod ExampleChange

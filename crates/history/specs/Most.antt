@@ -12,23 +12,18 @@ pub record Most (members : ℕ) (P : ℕ → Type 0) : Type 0 where
   pub enough : majority members boxes ≡ true
   pub each : (j : ℕ) → Member j members → holds boxes j ≡ true → P j
 
--- A member of which both hold.
-pub record Both (members : ℕ) (P Q : ℕ → Type 0) : Type 0 where
+-- A box of which both hold.
+pub record Met (P Q : ℕ → Type 0) : Type 0 where
   pub box : ℕ
-  pub member : Member box members
   pub left : P box
   pub right : Q box
 
 -- two majorities share a member
-pub both : {members : ℕ} {P Q : ℕ → Type 0} → members < 128 → Most members P → Most members Q → Both members P Q
+pub both : {members : ℕ} {P Q : ℕ → Type 0} → members < 128 → Most members P → Most members Q → Met P Q
 both {members} l p q =
     let s = meet members (p .boxes) (q .boxes) l (p .enough) (q .enough) in
     let m : Member (s .box) members = record { least = s .least; most = s .most; mask = l; held = s .member } in
-    record { box = s .box; member = m; left = p .each (s .box) m (s .first); right = q .each (s .box) m (s .second) }
-
--- what holds of most holds of one at least
-pub some : {members : ℕ} {P : ℕ → Type 0} → members < 128 → Most members P → Both members P P
-some l p = both l p p
+    record { box = s .box; left = p .each (s .box) m (s .first); right = q .each (s .box) m (s .second) }
 
 -- what follows for each follows for most
 pub most-map : {members : ℕ} {P Q : ℕ → Type 0} → ((j : ℕ) → P j → Q j) → Most members P → Most members Q

@@ -1,6 +1,6 @@
 // 01's small program: a box on lines of text. It reads, has each line answered by the library, and prints.
 use libc::STDOUT_FILENO;
-use node::Node;
+use record::Node;
 ghost use Prim.Native.Nat.{_≤_};
 ghost use lib.ListN.{length};
 

@@ -5,14 +5,13 @@ use native.Mathlib.Decide.{decLe, decLt}
 use native.Mathlib.Omega.{arith}
 use mathlib.Core.Path.{_≡_, refl, sym, ap, _∙_}
 use mathlib.Core.Bool.{true}
-use mathlib.Core.List.{List, [], _++_, append-assoc, append-nil}
+use mathlib.Core.List.{List, [], _++_, append-assoc}
 use mathlib.Core.Logic.{_⊎_, inl, inr}
 use lib.ListN.{length, take, drop, length-append}
-use lib.Seq.{take-all, take-at, take-append-le, take-append-add, take-append-seam, drop-append-add}
+use lib.Seq.{take-all, take-append-le, take-append-add, take-append-seam, drop-append-add}
 use Rattle.digits.specs.Room.{over}
 use Rattle.raft.specs.Record.{State, fresh, is-membership}
 use Rattle.raft.specs.Journal.{head, journaled}
-use Rattle.raft.specs.SendLaws.{All}
 use Rattle.raft.specs.FitLaws.{all-take, all-drop}
 use Rattle.raft.specs.ReceiveSends.{all-both}
 use Rattle.journal.specs.LinesLaws.{Feedless}
@@ -98,17 +97,16 @@ module _ (base : List ℕ) (s t : State) (n : ℕ) (disk : List ℕ) (d : Disk b
 
   -- ---- cutting
 
-  -- Cut at the count, it loses nothing.
-  pub disk-trims : Disk base s t n (take n disk)
-  unfolding All
-  disk-trims =
+  -- Cut anywhere behind the count, it loses nothing.
+  pub disk-trims : (k : ℕ) → Disk base s t n (take (n + k) disk)
+  disk-trims k =
       record {
         journal = d .journal;
-        tail = [];
+        tail = take k (d .tail);
         run = d .run;
-        free = tt;
+        free = all-take _ k (d .tail) (d .free);
         count = d .count;
-        is = ap (take n) (d .is) ∙ take-at (base ++ d .journal) (d .tail) n (sym (d .count)) ∙ sym (append-nil (base ++ d .journal));
+        is = rw (d .is, d .count) (take-append-add (base ++ d .journal) (d .tail) k);
       }
 
 -- What is left of a disk that is cut: that of a record from which the run went on.

@@ -12,8 +12,8 @@ use Rattle.digits.specs.Tests.{and-left, and-right}
 use Rattle.frames.specs.declared.Entry.{Entry}
 use Rattle.raft.specs.Record.{term-at}
 use Rattle.raft.specs.Journal.{same-entry, kept}
-use Rattle.raft.specs.Receive.{stop, passes, joined}
-use Rattle.raft.specs.JoinLaws.{joined-same, joined-long, kept-joined}
+use Rattle.raft.specs.Append.{stop, passes, joined}
+use Rattle.raft.specs.JoinLaws.{kept-self, kept-more, joined-same, joined-long, kept-joined}
 
 -- entries with the same term and order are the same
 same-entries : (x y : Entry) → same-entry x y ≡ true → x ≡ y
@@ -49,18 +49,6 @@ kept-rebuilds (x ∷ a) (y ∷ b) = go (same-entry x y) refl (kept-rebuilds a b)
 -- Where all of both is kept, they are the same.
 pub kept-all : (a b : List Entry) → kept a b ≡ length a → kept a b ≡ length b → a ≡ b
 kept-all a b p q = sym (sym (kept-rebuilds a b) ∙ rw (q, drop-length b, append-nil, ← q, p) (take-length a))
-
--- All of a log is kept by itself,
-pub kept-self : (a : List Entry) → kept a a ≡ length a
-unfolding kept
-kept-self [] = refl
-kept-self (x ∷ a) = rw (eq-eqb (x .term) (x .term) refl, eq-eqb (x .order) (x .order) refl, kept-self a)
-
--- and by a log that goes on.
-pub kept-more : (a b : List Entry) → kept a (a ++ b) ≡ length a
-unfolding kept
-kept-more [] b = refl
-kept-more (x ∷ a) b = rw (eq-eqb (x .term) (x .term) refl, eq-eqb (x .order) (x .order) refl, kept-more a b)
 
 -- At kept both have the same term, 0 at the start.
 pub kept-term : (a b : List Entry) → term-at a (kept a b) ≡ term-at b (kept a b)

@@ -26,8 +26,8 @@ pub data Life (me mask : ℕ) : State → ℕ → List ℕ → Type 0 where
       → opening me (over disk n (take k (journaled s t))) ≡ opened u m → Life me mask u m (over disk n (take k (journaled s t)))
   -- power is lost between steps, and the journal is opened
   reopens : {s u : State} {n m : ℕ} {disk : List ℕ} → Life me mask s n disk → opening me disk ≡ opened u m → Life me mask u m disk
-  -- the host cuts off what is behind the count
-  trims : {s : State} {n : ℕ} {disk : List ℕ} → Life me mask s n disk → Life me mask s n (take n disk)
+  -- the host cuts off what is behind the count, or a part of it where power fails in that, and `reopens` follows
+  trims : {s : State} {n : ℕ} {disk : List ℕ} → Life me mask s n disk → (more : ℕ) → Life me mask s n (take (n + more) disk)
 
 -- A membership, and a disk of the fresh box's run.
 abbrev pub Kept : (me mask : ℕ) → State → ℕ → List ℕ → Type 0
@@ -78,9 +78,9 @@ life-kept me mask u m disk (fails {s = s} {t = t} {n = n} {disk = d} l st k h) =
     go i (inl a) = kept-opened me mask s n _ u m (i, a) h
     go i (inr a) = kept-opened me mask t _ _ u m (i, a) h
 life-kept me mask u m disk (reopens {s = s} {n = n} l h) = kept-opened me mask s n disk u m (life-kept me mask s n disk l) h
-life-kept me mask s n disk (trims {disk = d} l) =
+life-kept me mask s n disk (trims {disk = d} l more) =
     let k = life-kept me mask s n d l in
-    (k .0, disk-trims _ _ s n d (k .1))
+    (k .0, disk-trims _ _ s n d (k .1) more)
 
 -- **Whatever happened, the disk opens with the box's stored part, and with the count at which its next line is written.**
 pub life-opens : (me mask : ℕ) (s : State) (n : ℕ) (disk : List ℕ) → Life me mask s n disk → opening me disk ≡ opened (restarted s) n

@@ -93,14 +93,10 @@ told : (l : Line) (s : List ℕ) → stands (line-fields l) 0 s
     → (version s ≡ 1) × (kind s ≡ 16) × (count-in s ≡ length (l .entries)) × (line-in s ≡ l)
 unfolding stands version kind count-in line-in box-in
 told l s t =
-    let counted = t .1 .1 .1 .1 .1 .1 .0 in
+    let (first, (second, (box, (term, (vote, (kept, (counted, entries))))))) = t in
     let read : entries-at s 22 (field s 20 1) ≡ l .entries =
-    ap (entries-at s 22) counted ∙ entries-read (l .entries) 22 s (t .1 .1 .1 .1 .1 .1 .1) in (
-      t .0,
-      t .1 .0,
-      counted,
-      λ d. record { box = t .1 .1 .0 d; term = t .1 .1 .1 .0 d; vote = t .1 .1 .1 .1 .0 d; kept = t .1 .1 .1 .1 .1 .0 d; entries = read d },
-    )
+    ap (entries-at s 22) counted ∙ entries-read (l .entries) 22 s entries in
+    (first, second, counted, λ d. record { box = box d; term = term d; vote = vote d; kept = kept d; entries = read d })
 
 -- What was written of a line is read as the same line.
 pub line-reads : (l : Line) → sized (line-fields l) → (line-shaped (line-text l) ≡ true) × (line-in (line-text l) ≡ l)
@@ -174,9 +170,9 @@ pub head-reads : (box mask : ℕ) → box < 256 → mask < 256
 unfolding head-shaped stands sized version kind box-in mask-in
 head-reads box mask b m =
     let fs = head-fields box mask in
-    let t = lined-stands fs (omega arith, (omega arith, (b, (m, tt)))) in
+    let (first, (second, (its-box, (its-mask, rest)))) = lined-stands fs (omega arith, (omega arith, (b, (m, tt)))) in
     rw (head-lined box mask)
-    (rw (is-line-lined fs, t .0, t .1 .0, eq-eqb (length (lined fs)) 9 (length-lined fs)), t .1 .1 .0, t .1 .1 .1 .0)
+    (rw (is-line-lined fs, first, second, eq-eqb (length (lined fs)) 9 (length-lined fs)), its-box, its-mask)
 
 -- and what has the form of a head is the text of the box and mask that are read.
 pub head-exactly : (s : List ℕ) → head-shaped s ≡ true → head (box-in s) (mask-in s) ≡ s

@@ -17,16 +17,21 @@ use Rattle.raft.specs.Record.{State, is-other, good}
 use Rattle.raft.specs.Commit.{settle}
 use Rattle.raft.specs.Sends.{vote-request-to, append-to, to-others, vote-requests, appends, texts}
 use Rattle.raft.specs.Journal.{same-stored, line-of, journaled}
-use Rattle.raft.specs.Step.{done, standing, leading, timeout, ordered, order, prompt}
-use Rattle.raft.specs.Receive.{adding, deliver, receive}
+use Rattle.raft.specs.Winning.{leading}
+use Rattle.raft.specs.Timeout.{standing, timeout}
+use Rattle.raft.specs.Order.{ordered, order}
+use Rattle.raft.specs.Prompt.{prompt}
+use Rattle.raft.specs.VoteAnswer.{adding}
+use Rattle.raft.specs.Receive.{deliver, receive}
+use Rattle.raft.specs.Event.{Event, times-out, takes-order, is-prompted, receives, step}
 use Rattle.raft.specs.CommitLaws.{by-test}
 use Rattle.raft.specs.RecordLaws.{good-facts, Member, member-facts}
 use Rattle.raft.specs.StepLaws.{timeout-ends, order-ends, prompt-ends}
-use Rattle.raft.specs.SendLaws.{All, Obey, timeout-obeys, order-obeys, prompt-obeys}
+use Rattle.raft.specs.SendLaws.{All, Obey}
 use Rattle.raft.specs.ReceiveLaws.{Ends, vote-request-ends, vote-answer-ends, append-ends, append-answer-ends, Arrives, receive-ends, offer-facts}
-use Rattle.raft.specs.ReceiveSends.{receive-obeys}
+use Rattle.raft.specs.EventLaws.{step-obeys}
 use Rattle.journal.specs.LineSpelling.{line-lined, length-lined, line-chars}
-use Rattle.journal.specs.StepMoves.{Moved, timeout-moves, order-moves, prompt-moves, receive-moves}
+use Rattle.journal.specs.StepMoves.{Moved, step-moves}
 
 -- A journal line with four entries,
 abbrev pub longest-line : ℕ
@@ -133,21 +138,29 @@ prompt-six s m = prompt-ends Six s (λ r. appends-six s m)
 
 -- A message that arrives gets at most one answer, or makes a leader that sends appends,
 deliver-six : (s : State) → Member (s .me) (s .members) → (m : Message) → Arrives s m → Ends Six (deliver m s)
-unfolding deliver settle leading adding
+unfolding settle leading adding
 deliver-six s m (vote-request from to term index prior) a =
-    vote-request-ends Six s from term index prior (λ y. omega arith) (λ n. omega arith)
+    vote-request-ends Six s from to term index prior (λ y. omega arith) (omega arith)
 deliver-six s m (vote-answer from to term reply) a =
-    vote-answer-ends Six s from term reply (λ c w. appends-six (settle (leading (adding s from))) m) (λ c w. omega arith) (λ n. omega arith)
+    vote-answer-ends Six s from to term reply (λ c w. appends-six (settle (leading (adding s from))) m) (λ c w. omega arith) (omega arith)
 deliver-six s m (append from to term index prior commit es) a =
-    append-ends Six s from term index prior commit es (λ l. omega arith) (λ l n. omega arith) (λ l n c. omega arith)
+    append-ends Six s from to term index prior commit es (λ l. omega arith) (λ l n. omega arith) (λ l n c. omega arith)
 deliver-six s m (append-answer from to term reply index) a =
-    append-answer-ends Six s from term reply index (λ h b. omega arith) (λ h b. omega arith) (λ n. omega arith)
+    append-answer-ends Six s from to term reply index (λ h b. omega arith) (λ h b. omega arith) (omega arith)
 
 -- and so do any bytes.
 receive-six : (bytes : List ℕ) (s : State) → Member (s .me) (s .members) → Ends Six (receive bytes s)
 receive-six bytes s m = receive-ends Six s (deliver-six s m) bytes
 
--- ---- any step
+-- Any event sends at most six.
+step-six : (e : Event) (s : State) → Member (s .me) (s .members) → Ends Six (step e s)
+unfolding step
+step-six times-out s m = timeout-six s m
+step-six (takes-order o) s m = order-six o s m
+step-six is-prompted s m = prompt-six s m
+step-six (receives bytes) s m = receive-six bytes s m
+
+-- ---- any event
 
 -- At most six messages of at most 131 bytes are at most 786.
 longest-when : (s t : State) (ms : List Message) → Moved s t → Obey ms → Six t ms → Longest s t ms
@@ -157,23 +170,7 @@ longest-when s t ms m o six = record { line = line-most s t m; sent = omega (ari
 good-member : (s : State) → good s ≡ true → Member (s .me) (s .members)
 good-member s h = member-facts (s .me) (s .members) (good-facts s h .membership)
 
--- So a timeout of a good record writes no more,
-pub timeout-longest : (s : State) → good s ≡ true → (t : State) (ms : List Message) → timeout s ≡ done t ms → Longest s t ms
-timeout-longest s h t ms e =
-    longest-when s t ms (timeout-moves s (good-facts s h) t ms e) (timeout-obeys s h t ms e) (timeout-six s (good-member s h) t ms e)
-
--- nor does an order,
-pub order-longest : (o : ℕ) (s : State) → good s ≡ true → (t : State) (ms : List Message) → order o s ≡ done t ms → Longest s t ms
-order-longest o s h t ms e =
-    longest-when s t ms (order-moves o s (good-facts s h) t ms e) (order-obeys o s h t ms e) (order-six o s (good-member s h) t ms e)
-
--- nor a prompt,
-pub prompt-longest : (s : State) → good s ≡ true → (t : State) (ms : List Message) → prompt s ≡ done t ms → Longest s t ms
-prompt-longest s h t ms e =
-    longest-when s t ms (prompt-moves s (good-facts s h) t ms e) (prompt-obeys s h t ms e) (prompt-six s (good-member s h) t ms e)
-
--- nor do any bytes.
-pub receive-longest : (bytes : List ℕ) (s : State) → good s ≡ true → (t : State) (ms : List Message) → receive bytes s ≡ done t ms → Longest s t ms
-receive-longest bytes s h t ms e =
-    longest-when s t ms (receive-moves bytes s (good-facts s h) t ms e) (receive-obeys bytes s h t ms e)
-    (receive-six bytes s (good-member s h) t ms e)
+-- **So no event makes a good record write more.**
+pub step-longest : (e : Event) (s : State) → good s ≡ true → Ends (λ t ms. Longest s t ms) (step e s)
+step-longest e s h t ms o =
+    longest-when s t ms (step-moves e s (good-facts s h) t ms o) (step-obeys e s h t ms o) (step-six e s (good-member s h) t ms o)

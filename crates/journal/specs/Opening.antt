@@ -4,34 +4,17 @@ use mathlib.Core.Bool.{Bool, cond, _&&_, _||_}
 use mathlib.Core.List.{List, [], _∷_, _++_}
 use lib.Dec.{eqb, ltb, leb}
 use lib.ListN.{length, take}
-use Rattle.frames.specs.declared.Entry.{Entry}
 use Rattle.frames.specs.Limits.{log-limit, entry-limit}
 use Rattle.frames.specs.Rules.{in-order}
-use Rattle.raft.specs.Record.{State, follower, last-index, term-at, none-sent, fresh, is-membership, is-vote}
+use Rattle.raft.specs.Record.{State, last-index, term-at, fresh, with-term, with-vote, with-log, with-commit, as-follower, is-membership, is-vote}
 use Rattle.raft.specs.Journal.{Line}
 use Rattle.journal.specs.Lines.{lines, whole-bytes, box-in, mask-in, head-shaped, line-shaped, line-in}
 
 -- ---- the record that is opened
 
--- A record of a stored part alone: a follower, commit 0.
-unfoldable pub stored : (me members term vote : ℕ) → List Entry → State
-stored me members term vote log =
-    record {
-      me = me;
-      members = members;
-      term = term;
-      vote = vote;
-      log = log;
-      commit = 0;
-      role = follower;
-      votes = 0;
-      next = none-sent;
-      matched = none-sent;
-    }
-
 -- "A restart keeps the stored part, is a follower, commit 0."
 unfoldable pub restarted : State → State
-restarted s = stored (s .me) (s .members) (s .term) (s .vote) (s .log)
+restarted s = as-follower (with-commit 0 s)
 
 -- ---- the rules of a line behind the record so far, in 01's order
 
@@ -70,9 +53,9 @@ allows s l =
 
 -- ---- one line
 
--- The record with a line replayed: "kept" entries of its log and the line's behind them.
+-- The record with a line replayed: the line's term and vote, "kept" entries of the log and the line's behind them.
 unfoldable pub after : State → Line → State
-after s l = stored (s .me) (s .members) (l .term) (l .vote) (take (l .kept) (s .log) ++ l .entries)
+after s l = restarted (with-log (take (l .kept) (s .log) ++ l .entries) (with-vote (l .vote) (with-term (l .term) s)))
 
 -- What one line comes to.
 pub data Replayed : Type 0 where

@@ -9,12 +9,11 @@ use lib.Dec.{eqb, leb}
 use lib.ListN.{length, length-append, length-take}
 use borrow.Author.Tests.{eqb-true, leb-true, eq-eqb, le-leb}
 use Rattle.digits.specs.Tests.{and-left, and-right}
-use Rattle.frames.specs.declared.Entry.{Entry}
 use Rattle.frames.specs.Clauses.{four}
 use Rattle.frames.specs.Limits.{log-limit, entry-limit}
 use Rattle.frames.specs.Message.{sized}
 use Rattle.frames.specs.Rules.{in-order}
-use Rattle.raft.specs.Record.{State, follower, last-index, fresh, is-membership, is-vote, is-role, are-votes, is-sent, sends-to, good}
+use Rattle.raft.specs.Record.{State, follower, last-index, fresh, is-membership, is-vote, is-role, are-votes, is-progress, sends-to, good}
 use Rattle.raft.specs.Journal.{head, Line}
 use Rattle.raft.specs.RecordLaws.{Good, good-facts, facts-good, fresh-good}
 use Rattle.raft.specs.StepLaws.{in-order-later, none-of-box}
@@ -24,7 +23,8 @@ use Rattle.raft.specs.ReceiveLaws.{in-order-behind}
 use Rattle.raft.specs.ReceiveSends.{orders-sized, all-both}
 use Rattle.journal.specs.Lines.{lines, whole-bytes, box-in, mask-in, head-shaped, line-shaped, line-in}
 use Rattle.journal.specs.LineSpelling.{line-fields, line-sized, head-exactly}
-use Rattle.journal.specs.Opening.{stored, restarted, is-of-box, term-holds, vote-is, vote-stays, kept-holds, count-holds, entries-hold, allows, after, Replayed, next, breaks, replayed, opened, headless, broken, go-on, replay, is-head, open-lines, opening}
+use Rattle.journal.specs.Opening.{restarted, is-of-box, term-holds, vote-is, vote-stays, kept-holds, count-holds, entries-hold, allows}
+use Rattle.journal.specs.Opening.{after, Replayed, next, breaks, replayed, opened, headless, broken, go-on, replay, is-head, open-lines, opening}
 
 -- ---- the rules of a line as facts
 
@@ -77,10 +77,10 @@ facts-allowed s l a =
 -- ---- a restart
 
 -- Where the stored part keeps its rules, a record of it alone is good;
-pub good-stored : (me members term vote : ℕ) (log : List Entry) → is-membership me members ≡ true → is-vote members vote ≡ true
-    → length log ≤ log-limit → in-order 0 term log ≡ true → Good (stored me members term vote log)
-unfolding stored is-role are-votes is-sent sends-to
-good-stored me members term vote log m v r o =
+pub good-stored : (s : State) → is-membership (s .me) (s .members) ≡ true → is-vote (s .members) (s .vote) ≡ true
+    → length (s .log) ≤ log-limit → in-order 0 (s .term) (s .log) ≡ true → Good (restarted s)
+unfolding restarted is-role are-votes is-progress sends-to
+good-stored s m v r o =
     record {
       membership = m;
       vote = v;
@@ -94,22 +94,21 @@ good-stored me members term vote log m v r o =
 
 -- so a good record is good after a restart,
 pub restarted-good : (s : State) → Good s → Good (restarted s)
-unfolding restarted
-restarted-good s g = good-stored (s .me) (s .members) (s .term) (s .vote) (s .log) (g .membership) (g .vote) (g .room) (g .order)
+restarted-good s g = good-stored s (g .membership) (g .vote) (g .room) (g .order)
 
 -- and one that fits its types fits them.
 pub restarted-fits : (s : State) → Fits s → Fits (restarted s)
-unfolding restarted stored
+unfolding restarted
 restarted-fits s f = record { term = f .term; orders = f .orders }
 
 -- A second restart changes nothing.
 pub restarted-twice : (s : State) → restarted (restarted s) ≡ restarted s
-unfolding restarted stored
+unfolding restarted
 restarted-twice s = refl
 
 -- A fresh box is as after a restart.
 pub fresh-restarted : (me members : ℕ) → restarted (fresh me members) ≡ fresh me members
-unfolding restarted stored fresh
+unfolding restarted fresh
 fresh-restarted me members = refl
 
 -- A fresh box fits its types.
@@ -151,23 +150,24 @@ pub record Sound (me members : ℕ) (s : State) : Type 0 where
 pub after-good : (s : State) (l : Line) → Good s → Allowed s l → Good (after s l)
 unfolding after
 after-good s l g a =
-    good-stored (s .me) (s .members) (l .term) (l .vote) _ (g .membership) (a .vote)
+    good-stored _ (g .membership) (a .vote)
     (simp (length-append, length-take) (omega (arith, a .room, a .kept)))
     (in-order-behind (l .term) (s .log) (l .kept) (l .entries) (a .kept)
     (in-order-later 0 (s .term) (l .term) (s .log) (a .rises) (g .order)) (a .order))
 
 -- and within its types, where its own numbers fit their fields.
 pub after-fits : (s : State) (l : Line) → Fits s → sized (line-fields l) → Fits (after s l)
-unfolding after stored sized
+unfolding after restarted sized
 after-fits s l f z =
+    let (version, (kind, (box, (term, (vote, (kept, (count, entries))))))) = z in
     record {
-      term = z .1 .1 .1 .0;
-      orders = all-both eight-bytes _ _ (all-take eight-bytes (l .kept) (s .log) (f .orders)) (orders-sized (l .entries) (z .1 .1 .1 .1 .1 .1 .1));
+      term = term;
+      orders = all-both eight-bytes _ _ (all-take eight-bytes (l .kept) (s .log) (f .orders)) (orders-sized (l .entries) entries);
     }
 
 -- So a line that is replayed keeps all of this.
 pub replayed-sound : (me members : ℕ) (s : State) (bytes : List ℕ) (t : State) → Sound me members s → replayed s bytes ≡ next t → Sound me members t
-unfolding after restarted stored
+unfolding after restarted
 replayed-sound me members s bytes t a h =
     let g = replayed-goes s bytes t h in
     rw (← g .is)
@@ -276,7 +276,7 @@ module _ (me : ℕ) (bytes : List ℕ) (s : State) (n : ℕ) (h : opening me byt
 
   -- a follower with commit 0,
   pub opened-follows : (s .role ≡ follower) × (s .commit ≡ 0)
-  unfolding restarted stored
+  unfolding restarted
   opened-follows = (ap (λ (t : State). t .role) (sym opened-restarted), ap (λ (t : State). t .commit) (sym opened-restarted))
 
   -- and the number of bytes is fixed: up to and with the last line feed.

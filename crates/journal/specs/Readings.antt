@@ -14,7 +14,7 @@ use Rattle.raft.specs.Majority.{holds}
 use Rattle.raft.specs.Record.{term-at, fresh, is-membership, is-vote}
 use Rattle.raft.specs.Journal.{head, line-text}
 use Rattle.journal.specs.Lines.{lines-behind, lines, whole-bytes, box-in, mask-in, head-shaped, count-in, line-shaped, line-in}
-use Rattle.journal.specs.Opening.{stored, allows, after, replayed, Opened, opened, headless, broken, go-on, replay, is-head, open-lines, opening}
+use Rattle.journal.specs.Opening.{restarted, allows, after, replayed, Opened, opened, headless, broken, go-on, replay, is-head, open-lines, opening}
 
 -- What opening comes to, in numbers: 0, the count of bytes, term, vote and the log's terms; or 11; or 10 and the line's number.
 unfoldable pub answer : Opened → List ℕ
@@ -97,5 +97,5 @@ readings =
 pub readings-hold : readings ≡ true
 unfolding readings answer digit place is-digit worth hex big-endian spelt numeral field run entry-fields spell is-line version kind entry-at
     entries-at in-order holds term-at fresh is-membership is-vote head line-text lines-behind lines whole-bytes box-in mask-in head-shaped
-    count-in line-shaped line-in stored allows after replayed go-on replay is-head open-lines opening
+    count-in line-shaped line-in restarted allows after replayed go-on replay is-head open-lines opening
 readings-hold = refl

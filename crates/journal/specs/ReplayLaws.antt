@@ -13,13 +13,14 @@ use Rattle.raft.specs.RecordLaws.{good-facts, facts-good, member-facts}
 use Rattle.raft.specs.SendLaws.{All}
 use Rattle.raft.specs.FitLaws.{Fits}
 use Rattle.raft.specs.ReceiveSends.{all-both}
+use Rattle.raft.specs.EventLaws.{step-good, step-fits}
 use Rattle.journal.specs.Lines.{whole-bytes, mask-in}
 use Rattle.journal.specs.LinesLaws.{Feedless, Whole, strung, strung-append, lines-strung, counted-strung, lines-whole, whole-lines, whole-most}
 use Rattle.journal.specs.LineSpelling.{line-whole, head-nine, head-whole, head-reads}
 use Rattle.journal.specs.Opening.{restarted, Replayed, next, breaks, replayed, opened, go-on, replay, is-head, open-lines, opening}
 use Rattle.journal.specs.OpeningLaws.{restarted-good, restarted-fits, restarted-twice, Begins, opening-begins, opened-sound, opened-good, opened-bytes}
-use Rattle.journal.specs.Runs.{Step, Run, stays, steps, restarts}
-use Rattle.journal.specs.StepMoves.{step-moves, step-good, step-fits}
+use Rattle.journal.specs.Runs.{Step, by-event, Run, stays, steps, restarts}
+use Rattle.journal.specs.StepMoves.{Moved, step-moves}
 use Rattle.journal.specs.StepLine.{step-replayed, step-same, journaled-none, journaled-line}
 
 -- ---- lines behind lines
@@ -78,13 +79,16 @@ pub record Written (s t : State) (bytes : List ℕ) : Type 0 where
 -- one step more
 written-more : (s t u : State) (bytes : List ℕ) → Written s t bytes → Step t u → Written s u (bytes ++ journaled t u)
 unfolding All strung
-written-more s t u bytes w st = go (same-stored t u) refl
+written-more s t u bytes w (by-event e ms y o) = go (same-stored t u) refl
   where
     k : good u ≡ true
-    k = step-good t u (w .holds) st
+    k = step-good e t (w .holds) u ms o
 
     f : Fits u
-    f = step-fits t u (w .holds) (w .fits) st
+    f = step-fits e t (w .holds) (w .fits) y u ms o .0
+
+    m : Moved t u
+    m = step-moves e t (good-facts t (w .holds)) u ms o
 
     go : (b : Bool) → same-stored t u ≡ b → Written s u (bytes ++ journaled t u)
     go true e =
@@ -92,13 +96,13 @@ written-more s t u bytes w st = go (same-stored t u) refl
           its-lines = w .its-lines;
           is = rw (journaled-none t u e, append-nil) (w .is);
           each = w .each;
-          replays = rw (← step-same t u (good-facts u k) f (step-moves t u (good-facts t (w .holds)) st) e) (w .replays);
+          replays = rw (← step-same t u (good-facts u k) f m e) (w .replays);
           holds = k;
           fits = f;
         }
     go false e =
         let line = line-text (line-of t u) in
-        let one = step-replayed t u (good-facts u k) f (step-moves t u (good-facts t (w .holds)) st) in
+        let one = step-replayed t u (good-facts u k) f m in
         record {
           its-lines = w .its-lines ++ (line ∷ []);
           is = rw (journaled-line t u e, strung-append (w .its-lines) (line ∷ []), w .is, append-nil);

@@ -20,9 +20,10 @@ use Rattle.raft.specs.RecordLaws.{box-range, Good, member-facts}
 use Rattle.raft.specs.SendLaws.{in-order-drop}
 use Rattle.raft.specs.FitLaws.{all-drop, eight-bytes, Fits, entries-sized}
 use Rattle.journal.specs.LineSpelling.{line-fields, line-reads}
-use Rattle.journal.specs.Opening.{stored, restarted, vote-stays, after, next, replayed}
+use Rattle.journal.specs.Opening.{restarted, vote-stays, after, next, replayed}
 use Rattle.journal.specs.OpeningLaws.{Allowed, facts-allowed}
-use Rattle.journal.specs.KeptLaws.{kept-most, kept-rebuilds, kept-all, kept-self, kept-term}
+use Rattle.raft.specs.JoinLaws.{kept-self}
+use Rattle.journal.specs.KeptLaws.{kept-most, kept-rebuilds, kept-all, kept-term}
 use Rattle.journal.specs.StepMoves.{Moved}
 
 -- a vote is at most 7
@@ -36,7 +37,7 @@ vote-low members vote h = go (eqb vote 0) refl h
 
 -- Where the stored part is the same, the test for it passes.
 pub same-when : (s t : State) → restarted s ≡ restarted t → same-stored s t ≡ true
-unfolding same-stored restarted stored
+unfolding same-stored restarted
 same-when s t e =
     rw (
       ap (λ (u : State). u .term) e,
@@ -55,7 +56,7 @@ module _ (s t : State) (k : Good t) (f : Fits t) (m : Moved s t) where
 
   -- a vote that is set stays within a term
   stays-there : vote-stays (restarted s) (line-of s t) ≡ true
-  unfolding restarted stored line-of
+  unfolding restarted line-of
   stays-there = go (ltb (s .term) (t .term)) refl (eqb (s .vote) 0) refl
     where
       go : (a : Bool) → ltb (s .term) (t .term) ≡ a → (b : Bool) → eqb (s .vote) 0 ≡ b → (a || b || eqb (t .vote) (s .vote)) ≡ true
@@ -67,7 +68,7 @@ module _ (s t : State) (k : Good t) (f : Fits t) (m : Moved s t) where
 
   -- The step's line obeys every rule behind the stored part before it,
   pub step-allowed : Allowed (restarted s) (line-of s t)
-  unfolding restarted stored line-of
+  unfolding restarted line-of
   step-allowed =
       let most = kept-most (s .log) (t .log) in
       record {
@@ -98,7 +99,7 @@ module _ (s t : State) (k : Good t) (f : Fits t) (m : Moved s t) where
 
   -- and what it replays to is the stored part after the step.
   pub step-after : after (restarted s) (line-of s t) ≡ restarted t
-  unfolding after restarted stored line-of
+  unfolding after restarted line-of
   step-after = rw (← m .mine, ← m .ours, kept-rebuilds (s .log) (t .log))
 
   -- So the bytes of the line are replayed to it.

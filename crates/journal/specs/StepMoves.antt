@@ -10,19 +10,26 @@ use lib.ListN.{length, length-append}
 use borrow.Author.Tests.{eqb-true}
 use Rattle.frames.specs.declared.Entry.{Entry}
 use Rattle.frames.specs.Message.{Message, vote-request, vote-answer, append, append-answer}
-use Rattle.raft.specs.Record.{State, good}
+use Rattle.raft.specs.Record.{State}
 use Rattle.raft.specs.Journal.{kept}
 use Rattle.raft.specs.Commit.{settle}
-use Rattle.raft.specs.Step.{done, standing, leading, timeout, ordered, order, prompt}
-use Rattle.raft.specs.Receive.{taking, taken, voting, adding, lacks, following, joining, heard, deliver, sender, receive}
+use Rattle.raft.specs.Winning.{leading}
+use Rattle.raft.specs.Timeout.{standing, timeout}
+use Rattle.raft.specs.Order.{ordered, order}
+use Rattle.raft.specs.Prompt.{prompt}
+use Rattle.raft.specs.AnyMessage.{taking, taken}
+use Rattle.raft.specs.VoteRequest.{voting}
+use Rattle.raft.specs.VoteAnswer.{adding}
+use Rattle.raft.specs.Append.{lacks, following, joining}
+use Rattle.raft.specs.AppendAnswer.{heard}
+use Rattle.raft.specs.Receive.{sender, term-of, deliver, receive}
+use Rattle.raft.specs.Event.{Event, times-out, takes-order, is-prompted, receives, step}
 use Rattle.raft.specs.RecordLaws.{Good, self-voted}
-use Rattle.raft.specs.StepLaws.{timeout-ends, order-ends, prompt-ends, timeout-good, order-good, prompt-good}
-use Rattle.raft.specs.FitLaws.{Fits, timeout-fits, order-fits, prompt-fits}
-use Rattle.raft.specs.JoinLaws.{lacks-not}
-use Rattle.raft.specs.ReceiveLaws.{taken-by, taken-keeps, Ends, vote-request-ends, yes-facts, vote-answer-ends, append-ends, append-answer-ends, Arrives, receive-ends, term-of, sent-by, offer-facts, receive-good}
-use Rattle.raft.specs.ReceiveSends.{receive-fits}
-use Rattle.journal.specs.Runs.{Step, by-timeout, by-order, by-prompt, by-frame}
-use Rattle.journal.specs.KeptLaws.{kept-self, kept-more, joined-few}
+use Rattle.raft.specs.StepLaws.{timeout-ends, order-ends, prompt-ends}
+use Rattle.raft.specs.JoinLaws.{kept-self, kept-more, lacks-not}
+use Rattle.raft.specs.ReceiveLaws.{taken-by, taken-keeps, Ends, Arrives, receive-ends, sent-by, offer-facts}
+use Rattle.raft.specs.ReceiveLaws.{vote-request-ends, vote-answer-ends, append-ends, append-answer-ends}
+use Rattle.journal.specs.KeptLaws.{joined-few}
 
 -- What a step may make of a record's stored part.
 pub record Moves (s : State) (me members term vote : ℕ) (log : List Entry) : Type 0 where
@@ -56,14 +63,14 @@ moved-up s term vote l =
 -- ---- timeout, order, prompt
 
 -- A timeout moves the stored part so,
-pub timeout-moves : (s : State) → Good s → (t : State) (ms : List Message) → timeout s ≡ done t ms → Moved s t
+timeout-moves : (s : State) → Good s → Ends (λ t ms. Moved s t) (timeout s)
 unfolding settle leading standing
 timeout-moves s g =
     timeout-ends (λ t ms. Moved s t) s (λ r. moved-not s (self-voted s g (omega arith) .1))
     (λ c m. moved-up s (s .term + 1) (s .me) (omega arith)) (λ c m. moved-up s (s .term + 1) (s .me) (omega arith))
 
 -- an order,
-pub order-moves : (o : ℕ) (s : State) → Good s → (t : State) (ms : List Message) → order o s ≡ done t ms → Moved s t
+order-moves : (o : ℕ) (s : State) → Good s → Ends (λ t ms. Moved s t) (order o s)
 unfolding settle ordered
 order-moves o s g =
     order-ends (λ t ms. Moved s t) o s
@@ -77,7 +84,7 @@ order-moves o s g =
     })
 
 -- a prompt,
-pub prompt-moves : (s : State) → Good s → (t : State) (ms : List Message) → prompt s ≡ done t ms → Moved s t
+prompt-moves : (s : State) → Good s → Ends (λ t ms. Moved s t) (prompt s)
 prompt-moves s g = prompt-ends (λ t ms. Moved s t) s (λ r. moved-not s (self-voted s g (omega arith) .1))
 
 -- ---- a frame
@@ -114,54 +121,41 @@ moved-joining s term index prior commit es l n f =
       few = rw same (joined-few (s .log) index es there f);
     }
 
--- Each message that arrives moves it so,
-pub deliver-moves : (s : State) → Good s → (m : Message) → Arrives s m → Ends (λ t ms. Moved s t) (deliver m s)
-unfolding deliver sender term-of settle leading adding following heard
+-- each message that arrives moves it so,
+deliver-moves : (s : State) → Good s → (m : Message) → Arrives s m → Ends (λ t ms. Moved s t) (deliver m s)
+unfolding sender term-of settle leading adding following heard
 deliver-moves s g (vote-request from to term index prior) a =
     let d = sent-by s (vote-request from to term index prior) a in
     let m = moved-taken s term (d .early) in
-    vote-request-ends (λ t ms. Moved s t) s from term index prior
-    (λ y. moved-voting s (taken term s) from m (yes-facts s from term index prior y .free)) (λ n. m)
+    vote-request-ends (λ t ms. Moved s t) s from to term index prior
+    (λ y. moved-voting s (taken term s) from m (y .free)) m
 deliver-moves s g (vote-answer from to term reply) a =
     let d = sent-by s (vote-answer from to term reply) a in
-    vote-answer-ends (λ t ms. Moved s t) s from term reply
+    vote-answer-ends (λ t ms. Moved s t) s from to term reply
     (λ c m. moved-not s (omega (arith, c .same, d .early))) (λ c m. moved-not s (omega (arith, c .same, d .early)))
-    (λ n. moved-taken s term (d .early))
+    (moved-taken s term (d .early))
 deliver-moves s g (append from to term index prior commit es) a =
     let d = sent-by s (append from to term index prior commit es) a in
     let o = offer-facts from to term index prior commit es (a .obeyed) in
-    append-ends (λ t ms. Moved s t) s from term index prior commit es
+    append-ends (λ t ms. Moved s t) s from to term index prior commit es
     (λ l. moved-not s (omega (arith, d .early))) (λ l n. moved-taken s term (d .early))
     (λ l n c. moved-joining s term index prior commit es (d .early) n (o .few))
 deliver-moves s g (append-answer from to term reply index) a =
     let d = sent-by s (append-answer from to term reply index) a in
-    append-answer-ends (λ t ms. Moved s t) s from term reply index
+    append-answer-ends (λ t ms. Moved s t) s from to term reply index
     (λ h b. moved-not s (omega (arith, h .same, d .early))) (λ h b. moved-not s (omega (arith, h .same, d .early)))
-    (λ n. moved-taken s term (d .early))
+    (moved-taken s term (d .early))
 
 -- and so do any bytes.
-pub receive-moves : (bytes : List ℕ) (s : State) → Good s → (t : State) (ms : List Message) → receive bytes s ≡ done t ms → Moved s t
+receive-moves : (bytes : List ℕ) (s : State) → Good s → Ends (λ t ms. Moved s t) (receive bytes s)
 receive-moves bytes s g = receive-ends (λ t ms. Moved s t) s (deliver-moves s g) bytes
 
--- ---- any step
+-- ---- any event
 
--- Each moves the stored part so,
-pub step-moves : (s t : State) → Good s → Step s t → Moved s t
-step-moves s t g (by-timeout ms e) = timeout-moves s g t ms e
-step-moves s t g (by-order o ms l e) = order-moves o s g t ms e
-step-moves s t g (by-prompt ms e) = prompt-moves s g t ms e
-step-moves s t g (by-frame bytes ms e) = receive-moves bytes s g t ms e
-
--- leaves a good record good,
-pub step-good : (s t : State) → good s ≡ true → Step s t → good t ≡ true
-step-good s t h (by-timeout ms e) = timeout-good s h t ms e
-step-good s t h (by-order o ms l e) = order-good o s h t ms e
-step-good s t h (by-prompt ms e) = prompt-good s h t ms e
-step-good s t h (by-frame bytes ms e) = receive-good bytes s h t ms e
-
--- and within its types.
-pub step-fits : (s t : State) → good s ≡ true → Fits s → Step s t → Fits t
-step-fits s t h f (by-timeout ms e) = timeout-fits s h f t ms e .0
-step-fits s t h f (by-order o ms l e) = order-fits o s h f l t ms e .0
-step-fits s t h f (by-prompt ms e) = prompt-fits s h f t ms e .0
-step-fits s t h f (by-frame bytes ms e) = receive-fits bytes s h f t ms e .0
+-- **Each moves the stored part so.**
+pub step-moves : (e : Event) (s : State) → Good s → Ends (λ t ms. Moved s t) (step e s)
+unfolding step
+step-moves times-out s g = timeout-moves s g
+step-moves (takes-order o) s g = order-moves o s g
+step-moves is-prompted s g = prompt-moves s g
+step-moves (receives bytes) s g = receive-moves bytes s g

@@ -1,22 +1,23 @@
 // The outside calls, on the lent log as slices: each looks at the record first, and answers 12 where it breaks a rule.
-use crate::Handed;
-use crate::Node;
-use crate::Step;
-use crate::events::refused;
-use crate::events::run_order;
-use crate::events::run_prompt;
-use crate::events::run_timeout;
-use crate::receive::run_receive;
-use crate::record::is_good;
+use changes::is_good;
+use events::run_order;
+use events::run_prompt;
+use events::run_timeout;
+use messages::run_receive;
+use record::Handed;
+use record::Node;
+use record::Step;
+use writing::refused;
 ghost use mathlib.Core.Path.{_≡_};
 ghost use Rattle.frames.specs.Limits.{log-limit};
 ghost use lib.ListN.{length};
-ghost use Rattle.raft.specs.Step.{timeout, prompt};
-ghost use Rattle.raft.specs.Step.{order as ordering};
+ghost use Rattle.raft.specs.Timeout.{timeout};
+ghost use Rattle.raft.specs.Prompt.{prompt};
+ghost use Rattle.raft.specs.Order.{order as ordering};
 ghost use Rattle.raft.specs.Receive.{receive as receiving};
 ghost use Rattle.raft.specs.Record.{good};
 ghost use mathlib.Core.Bool.{true};
-ghost use Rattle.node.specs.Calls.{state-of, Called, run, call, handed};
+ghost use Rattle.record.specs.Calls.{state-of, Called, run, call, handed};
 
 pub fn timeout(n: Node, terms: &[u32], orders: &[u64], journal: &mut [u8], room: &mut [u8]) -> Step
     requires { ⌜ length (now terms) ≡ log-limit ⌝ }
@@ -72,7 +73,7 @@ pub fn run_bytes(
     requires { ⌜ good (state-of n (now terms) (now orders)) ≡ true ⌝ }
     ensures { λ r. ⌜ _≡_ {A = Called} (record { answer = r; terms = now (terms .exit); orders = now (orders .exit); journal = now (journal .exit); room = now (room .exit) }) (run (receiving (now (bytes .entry)) (state-of n (now (terms .entry)) (now (orders .entry)))) n (now (terms .entry)) (now (orders .entry)) (now (journal .entry)) (now (room .entry))) ⌝ }
 {
-    let parsed = frames::read(bytes);
+    let parsed = frame_reader::read(bytes);
     if parsed.refusal == 1 {
         return refused(n, 1);
     }

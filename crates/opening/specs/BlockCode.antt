@@ -10,8 +10,8 @@ use Rattle.frames.specs.Limits.{log-limit}
 use Rattle.raft.specs.Record.{fresh}
 use Rattle.journal.specs.Lines.{lines, mask-in}
 use Rattle.journal.specs.Opening.{Replayed, next, breaks, replayed, is-head}
-use Rattle.node.specs.declared.Node.{Node}
-use Rattle.node.specs.Calls.{state-of, node-of}
+use Rattle.record.specs.declared.Node.{Node}
+use Rattle.record.specs.Calls.{state-of, node-of}
 use Rattle.opening.specs.declared.Replayed as declared
 use Rattle.opening.specs.Calls.{first-line, Replaying, replaying, replaying-by, heading, Blocks, stopped, replay-each}
 use Rattle.opening.specs.CodeLaws.{first-most}

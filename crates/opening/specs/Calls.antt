@@ -12,8 +12,8 @@ use Rattle.frames.specs.Fields.{listed}
 use Rattle.raft.specs.Record.{fresh}
 use Rattle.raft.specs.Journal.{Line}
 use Rattle.raft.specs.Lent.{entries-of, terms-of, orders-of}
-use Rattle.node.specs.declared.Node.{Node}
-use Rattle.node.specs.Calls.{state-of, bare, node-of}
+use Rattle.record.specs.declared.Node.{Node}
+use Rattle.record.specs.Calls.{state-of, bare, node-of}
 use Rattle.opening.specs.declared.Told.{Told}
 use Rattle.opening.specs.declared.Replayed as declared
 use Rattle.opening.specs.declared.Opened as answers

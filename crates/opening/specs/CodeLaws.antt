@@ -27,8 +27,8 @@ use Rattle.frames.specs.ReadingLaws.{line-run, listed-places, length-entries}
 use Rattle.raft.specs.SendLaws.{All}
 use Rattle.raft.specs.Record.{State, term-at, is-membership, is-vote}
 use Rattle.raft.specs.LentLaws.{length-entries-of}
-use Rattle.node.specs.declared.Node.{Node}
-use Rattle.node.specs.Calls.{entries-of, state-of}
+use Rattle.record.specs.declared.Node.{Node}
+use Rattle.record.specs.Calls.{entries-of, state-of}
 use Rattle.opening.specs.declared.Told.{Told}
 use Rattle.journal.specs.Lines.{box-in, mask-in, count-in, line-shaped, line-in, head-shaped}
 use Rattle.journal.specs.Opening.{is-head, allows}

@@ -17,8 +17,8 @@ use Rattle.raft.specs.Record.{State, fresh, is-membership}
 use Rattle.raft.specs.RecordLaws.{at-box, Member, member-facts}
 use Rattle.raft.specs.Lent.{entries-of, terms-of, orders-of}
 use Rattle.raft.specs.LentLaws.{terms-are, orders-are}
-use Rattle.node.specs.declared.Node.{Node}
-use Rattle.node.specs.Calls.{state-of, node-of}
+use Rattle.record.specs.declared.Node.{Node}
+use Rattle.record.specs.Calls.{state-of, node-of}
 use Rattle.journal.specs.Lines.{lines, whole-bytes, box-in, mask-in, head-shaped}
 use Rattle.journal.specs.Opening.{Opened, opened, headless, broken, replay, is-head, open-lines, opening}
 use Rattle.opening.specs.declared.Opened as answers

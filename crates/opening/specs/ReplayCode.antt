@@ -17,14 +17,14 @@ use Rattle.frames.specs.Limits.{log-limit, entry-limit}
 use Rattle.frames.specs.Fields.{listed}
 use Rattle.frames.specs.Laws.{length-listed}
 use Rattle.frames.specs.ReadingLaws.{length-entries}
-use Rattle.raft.specs.Record.{State, follower, none-sent}
+use Rattle.raft.specs.Record.{State, follower, zeros}
 use Rattle.raft.specs.Journal.{Line}
 use Rattle.frames.specs.Clauses.{four}
 use Rattle.raft.specs.Lent.{entries-of, terms-of, orders-of}
 use Rattle.raft.specs.LentLaws.{length-entries-of, take-entries, terms-long, orders-long, stored-terms, stored-orders, stored-log}
-use Rattle.node.specs.declared.Node.{Node}
-use Rattle.node.specs.Calls.{state-of, node-of}
-use Rattle.node.specs.RoleLaws.{node-same, lent-same}
+use Rattle.record.specs.declared.Node.{Node}
+use Rattle.record.specs.Calls.{state-of, node-of}
+use Rattle.record.specs.RoleLaws.{node-same, lent-same}
 use Rattle.opening.specs.declared.Told.{Told}
 use Rattle.opening.specs.declared.Replayed as declared
 use Rattle.opening.specs.declared.Opened as answers
@@ -111,8 +111,8 @@ module _ (b : Node) (bytes terms orders : List ℕ) where
           commit = 0;
           role = follower;
           votes = 0;
-          next = none-sent;
-          matched = none-sent;
+          next = zeros;
+          matched = zeros;
         }
         → terms' ≡ over terms (l .kept + 0) (terms-of (listed (l .entries) 0 (l .count - 0)))
         → orders' ≡ over orders (l .kept + 0) (orders-of (listed (l .entries) 0 (l .count - 0)))

@@ -5,7 +5,7 @@ use crate::lines::head_mask;
 use crate::lines::line_end;
 use crate::whole::fresh;
 use crate::whole::replay;
-use node::Node;
+use record::Node;
 ghost use mathlib.Core.Path.{_≡_};
 ghost use Prim.Native.Nat.{_≤_};
 ghost use lib.ListN.{length};

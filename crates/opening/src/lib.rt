@@ -8,7 +8,7 @@ pub use blocks::replay_lines;
 use frames::Entry;
 pub use lines::is_head_shaped;
 pub use lines::line_end;
-use node::Node;
+use record::Node;
 pub use whole::open;
 pub use whole::replay;
 

@@ -1,7 +1,7 @@
 // A journal's lines: where one ends, its form, its fields, and the rules that it keeps behind the record so far.
 use crate::Told;
 use frames::in_order;
-use node::Node;
+use record::Node;
 use rules::is_vote;
 use rules::term_at;
 ghost use mathlib.Core.Path.{_≡_};
@@ -10,7 +10,7 @@ ghost use mathlib.Core.List.{List};
 ghost use Prim.Native.Nat.{ℕ, _+_, _≤_};
 ghost use lib.ListN.{length, drop};
 ghost use Rattle.frames.specs.Limits.{log-limit};
-ghost use Rattle.node.specs.Calls.{state-of};
+ghost use Rattle.record.specs.Calls.{state-of};
 ghost use Rattle.journal.specs.Lines.{mask-in, count-in, head-shaped, line-shaped, line-in};
 ghost use Rattle.journal.specs.Opening.{is-head, allows};
 ghost use Rattle.opening.specs.Calls.{first-line, line-of, allows-numbers};
@@ -37,7 +37,7 @@ pub fn is_head_shaped(s: &[u8]) -> bool
     if s.len() != 9 {
         return false;
     }
-    if !frames::is_line(s) {
+    if !frame_reader::is_line(s) {
         return false;
     }
     (digits::get_u8(s, 0) == 1) & (digits::get_u8(s, 2) == 17)
@@ -64,7 +64,7 @@ pub fn is_shaped(s: &[u8]) -> bool
     if s.len() < 23 {
         return false;
     }
-    if !frames::is_line(s) {
+    if !frame_reader::is_line(s) {
         return false;
     }
     (digits::get_u8(s, 0) == 1)
@@ -80,7 +80,7 @@ pub fn told(s: &[u8]) -> Told
     ensures { λ r. ⌜ r .count ≤ 4 ⌝ }
 {
     let count = digits::get_u8(s, 20);
-    let entries = frames::entries(s, 22, count);
+    let entries = frame_reader::entries(s, 22, count);
     Told {
         who: digits::get_u8(s, 4),
         term: digits::get_u32(s, 6),

@@ -7,14 +7,14 @@ use crate::lines::is_allowed;
 use crate::lines::is_shaped;
 use crate::lines::line_end;
 use crate::lines::told;
-use node::Node;
+use record::Node;
 ghost use mathlib.Core.Path.{_≡_};
 ghost use Prim.Native.Nat.{_+_, _≤_};
 ghost use lib.ListN.{length, take, drop};
 ghost use Rattle.digits.specs.Room.{over};
 ghost use Rattle.frames.specs.Limits.{log-limit};
-ghost use Rattle.raft.specs.Record.{follower, none-sent, fresh};
-ghost use Rattle.node.specs.Calls.{state-of, node-of};
+ghost use Rattle.raft.specs.Record.{follower, zeros, fresh};
+ghost use Rattle.record.specs.Calls.{state-of, node-of};
 ghost use Rattle.journal.specs.Lines.{lines, whole-bytes};
 ghost use Rattle.journal.specs.Opening as definition;
 ghost use Rattle.opening.specs.Calls.{Replaying, replaying, none, Found, Opens, opens};
@@ -31,7 +31,7 @@ fn breaks(n: Node) -> Replayed
 // The record with a line replayed: a follower, commit 0.
 fn after(n: Node, l: Told) -> Node
     requires { ⌜ l .kept + l .count ≤ log-limit ⌝ }
-    ensures { λ r. ⌜ r ≡ record { me = n .me; members = n .members; term = l .term; vote = l .vote; last = l .kept + l .count; commit = 0; role = follower; votes = 0; next = none-sent; matched = none-sent } ⌝ }
+    ensures { λ r. ⌜ r ≡ record { me = n .me; members = n .members; term = l .term; vote = l .vote; last = l .kept + l .count; commit = 0; role = follower; votes = 0; next = zeros; matched = zeros } ⌝ }
 {
     let zeros = [0u16; Node::BOXES];
     Node {

@@ -5,11 +5,11 @@ use mathlib.Core.Bool.{Bool, cond, _&&_}
 use lib.Dec.{eqb, ltb, leb}
 use lib.ListN.{length}
 use Rattle.raft.specs.Majority.{bit, holds, majority}
-use Rattle.raft.specs.Record.{State, last-index, term-at, of-box}
+use Rattle.raft.specs.Record.{State, last-index, term-at, of-box, with-commit}
 
 -- "The leader counts as matching its own last index."
 unfoldable pub matches : State → ℕ → ℕ
-matches s i = cond (eqb i (s .me)) (last-index s) (of-box (s .matched) i)
+matches s i = cond (eqb i (s .me)) (last-index s) (of-box (s .lead .matched) i)
 
 -- The boxes that match an index.
 abbrev pub if-matches : State → ℕ → ℕ → ℕ
@@ -33,16 +33,4 @@ settled s = highest (λ n. eqb (term-at (s .log) n) (s .term) && is-matched s n)
 
 -- The leader with its commit settled.
 unfoldable pub settle : State → State
-settle s =
-    record {
-      me = s .me;
-      members = s .members;
-      term = s .term;
-      vote = s .vote;
-      log = s .log;
-      commit = settled s;
-      role = s .role;
-      votes = s .votes;
-      next = s .next;
-      matched = s .matched;
-    }
+settle s = with-commit (settled s) s

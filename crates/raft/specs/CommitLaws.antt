@@ -16,7 +16,7 @@ use Rattle.frames.specs.Rules.{is-box, follows, in-order}
 use Rattle.frames.specs.Fields.{no-entry}
 use Rattle.frames.specs.Clauses.{four}
 use Rattle.raft.specs.MajorityLaws.{at-box}
-use Rattle.raft.specs.Record.{State, last-index, term-at, of-box, good, is-membership, is-sent, sends-to, is-sent-to}
+use Rattle.raft.specs.Record.{State, last-index, term-at, of-box, good, is-membership, is-progress, sends-to, has-progress}
 use Rattle.raft.specs.Commit.{matches, matching, is-matched, highest, settled}
 
 -- ---- tests
@@ -91,14 +91,14 @@ one-highest test low n a b p q = le-antisymm (highest-le test low n a b p q) (hi
 
 -- No box matches past the last index, the box itself is one of the seven, and terms never fall.
 pub record Ranged (s : State) : Type 0 where
-  pub low : (i : ℕ) → 1 ≤ i → i ≤ boxes → of-box (s .matched) i ≤ last-index s
+  pub low : (i : ℕ) → 1 ≤ i → i ≤ boxes → of-box (s .lead .matched) i ≤ last-index s
   pub me-least : 1 ≤ s .me
   pub me-most : s .me ≤ boxes
   pub ordered : in-order 0 (s .term) (s .log) ≡ true
 
 -- match is below next and next at most one past the last index, or match is 0
-sent-low : (sends : Bool) (last next matched : ℕ) → is-sent sends last next matched ≡ true → matched ≤ last
-unfolding is-sent
+sent-low : (sends : Bool) (last next matched : ℕ) → is-progress sends last next matched ≡ true → matched ≤ last
+unfolding is-progress
 sent-low true last next matched h =
     omega (arith, ltb-true matched next (and-left (ltb matched next) _ h), leb-true next (last + 1) (and-right (ltb matched next) _ h))
 sent-low false last next matched h = omega (arith, eqb-true matched 0 (and-right (eqb next 0) _ h))
@@ -107,21 +107,21 @@ sent-low false last next matched h = omega (arith, eqb-true matched 0 (and-right
 pub ranged : (s : State) → good s ≡ true → Ranged s
 unfolding good is-membership
 ranged s h =
-    let last = four _ (is-sent-to s 5) (is-sent-to s 6) (is-sent-to s 7) h in
-    let sent = four _ (is-sent-to s 2) (is-sent-to s 3) (is-sent-to s 4) (last .0) in
-    let role = four _ _ _ (is-sent-to s 1) (sent .0) in
+    let last = four _ (has-progress s 5) (has-progress s 6) (has-progress s 7) h in
+    let sent = four _ (has-progress s 2) (has-progress s 3) (has-progress s 4) (last .0) in
+    let role = four _ _ _ (has-progress s 1) (sent .0) in
     let log = four _ _ (in-order 0 (s .term) (s .log)) _ (role .0) in
     let member = four (leb 1 (s .me)) (leb (s .me) boxes) _ _ (and-left _ _ (log .0)) in
     record {
-      low = at-box (λ i. of-box (s .matched) i ≤ last-index s) (low 1 (role .3)) (low 2 (sent .1)) (low 3 (sent .2)) (low 4 (sent .3))
+      low = at-box (λ i. of-box (s .lead .matched) i ≤ last-index s) (low 1 (role .3)) (low 2 (sent .1)) (low 3 (sent .2)) (low 4 (sent .3))
           (low 5 (last .1)) (low 6 (last .2)) (low 7 (last .3));
       me-least = leb-true 1 (s .me) (member .0);
       me-most = leb-true (s .me) boxes (member .1);
       ordered = log .2;
     }
   where
-    low : (i : ℕ) → is-sent-to s i ≡ true → of-box (s .matched) i ≤ last-index s
-    low i e = sent-low (sends-to s i) (last-index s) (of-box (s .next) i) (of-box (s .matched) i) e
+    low : (i : ℕ) → has-progress s i ≡ true → of-box (s .lead .matched) i ≤ last-index s
+    low i e = sent-low (sends-to s i) (last-index s) (of-box (s .lead .next) i) (of-box (s .lead .matched) i) e
 
 -- ---- terms never fall
 
@@ -238,7 +238,7 @@ module _ (s : State) (r : Ranged s) where
   pub matches-low : (i : ℕ) → 1 ≤ i → i ≤ boxes → matches s i ≤ last-index s
   unfolding matches
   matches-low i l m =
-      by-test (λ x. x ≤ last-index s) (eqb i (s .me)) (last-index s) (of-box (s .matched) i) (λ e. le-refl _) (λ e. r .low i l m)
+      by-test (λ x. x ≤ last-index s) (eqb i (s .me)) (last-index s) (of-box (s .lead .matched) i) (λ e. le-refl _) (λ e. r .low i l m)
 
   -- and the box itself matches it
   me-matches : matches s (s .me) ≡ last-index s

@@ -14,7 +14,11 @@ use Rattle.frames.specs.OneSpelling.{frame-when}
 use Rattle.raft.specs.Record.{State, leader, last-index, term-at, of-box, is-other, good}
 use Rattle.raft.specs.Commit.{settle}
 use Rattle.raft.specs.Sends.{vote-request-to, append-after, append-to, vote-requests, appends}
-use Rattle.raft.specs.Step.{done, last-of-terms, standing, leading, timeout, ordered, order, prompt}
+use Rattle.raft.specs.Outcome.{done}
+use Rattle.raft.specs.Timeout.{last-of-terms, standing, timeout}
+use Rattle.raft.specs.Winning.{leading}
+use Rattle.raft.specs.Order.{ordered, order}
+use Rattle.raft.specs.Prompt.{prompt}
 use Rattle.raft.specs.RecordLaws.{Good, good-facts, member-facts, leader-sent}
 use Rattle.raft.specs.StepLaws.{in-order-most, follows-facts, good-standing, good-settle, good-ordered, good-won, timeout-ends, order-ends, prompt-ends}
 use Rattle.raft.specs.SendLaws.{in-order-drop, in-order-take, term-most, All, Obey, vote-requests-all, appends-all}
@@ -110,7 +114,7 @@ append-after-sized s g f p l i h =
 -- as a leader's append is.
 pub append-sized : (s : State) → Good s → Fits s → s .role ≡ leader → (i : ℕ) → 1 ≤ i → i ≤ boxes
     → is-other (s .me) (s .members) i ≡ true → sized (table (append-to s i))
-append-sized s g f r i l h o = append-after-sized s g f (of-box (s .next) i - 1) (omega (arith, leader-sent s g r i l h o)) i h
+append-sized s g f r i l h o = append-after-sized s g f (of-box (s .lead .next) i - 1) (omega (arith, leader-sent s g r i l h o)) i h
 
 -- ---- every message of a step
 

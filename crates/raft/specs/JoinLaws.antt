@@ -15,7 +15,7 @@ use Rattle.frames.specs.declared.Entry.{Entry}
 use Rattle.frames.specs.Fields.{no-entry}
 use Rattle.raft.specs.Record.{term-at}
 use Rattle.raft.specs.Journal.{kept}
-use Rattle.raft.specs.Receive.{lacks, agreed, stop, passes, joined}
+use Rattle.raft.specs.Append.{lacks, agreed, stop, passes, joined}
 
 -- ---- where the search stops
 
@@ -137,3 +137,17 @@ lacks-not log index term h = go (leb 1 index) refl h
         let t = not-false _ q in
         (leb-true _ _ (and-left (leb index (length log)) _ t), λ l. eqb-true _ _ (and-right (leb index (length log)) _ t))
     go false p q = let low = leb-false 1 index p in (omega arith, λ l. absurd (omega arith))
+
+-- ---- what a log keeps of another
+
+-- All of a log is kept by itself,
+pub kept-self : (a : List Entry) → kept a a ≡ length a
+unfolding kept
+kept-self [] = refl
+kept-self (x ∷ a) = rw (eq-eqb (x .term) (x .term) refl, eq-eqb (x .order) (x .order) refl, kept-self a)
+
+-- and by a log that goes on.
+pub kept-more : (a b : List Entry) → kept a (a ++ b) ≡ length a
+unfolding kept
+kept-more [] b = refl
+kept-more (x ∷ a) b = rw (eq-eqb (x .term) (x .term) refl, eq-eqb (x .order) (x .order) refl, kept-more a b)

@@ -5,8 +5,18 @@ pub mod Record
 pub mod Commit
 pub mod Sends
 pub mod Journal
-pub mod Step
+pub mod Outcome
+pub mod Winning
+pub mod Timeout
+pub mod Order
+pub mod Prompt
+pub mod AnyMessage
+pub mod VoteRequest
+pub mod VoteAnswer
+pub mod Append
+pub mod AppendAnswer
 pub mod Receive
+pub mod Event
 pub mod Lent
 pub mod JoinLaws
 pub mod LentLaws
@@ -19,4 +29,5 @@ pub mod FitLaws
 pub mod ReceiveLaws
 pub mod ReceiveSends
 pub mod RefusalLaws
+pub mod EventLaws
 pub mod Readings

@@ -10,10 +10,12 @@ use Rattle.frames.specs.Message.{Message, vote-request, vote-answer, append, ap
 use Rattle.frames.specs.Rules.{in-order, obeys}
 use Rattle.raft.specs.Majority.{holds, majority}
 use Rattle.raft.specs.Newer.{as-new}
-use Rattle.raft.specs.Record.{State, follower, leader, term-at, is-other, none-sent, good, is-membership, is-vote, is-role, are-votes, is-sent, sends-to}
+use Rattle.raft.specs.Record.{State, follower, leader, term-at, is-other, no-lead, good, is-membership, is-vote, is-role, are-votes, is-progress, sends-to}
 use Rattle.raft.specs.Commit.{matches, matching, is-matched, highest, settled}
-use Rattle.raft.specs.Step.{Outcome, done, refuse}
-use Rattle.raft.specs.Receive.{taken, lacks, agreed, stop, passes, joined, cuts-committed, joining, join, on-append, deliver}
+use Rattle.raft.specs.Outcome.{Outcome, done, refuse}
+use Rattle.raft.specs.AnyMessage.{taken}
+use Rattle.raft.specs.Append.{lacks, agreed, stop, passes, joined, cuts-committed, joining, on-append}
+use Rattle.raft.specs.Receive.{term-of, current, deliver}
 
 -- A log of these terms; the orders are all alike.
 abbrev pub entry : ℕ → Entry
@@ -34,8 +36,7 @@ leads terms n =
       commit = 1;
       role = leader;
       votes = 0;
-      next = 0 ∷ (n + 1) ∷ (n + 1) ∷ 1 ∷ 1 ∷ 0 ∷ 0 ∷ [];
-      matched = 0 ∷ n ∷ n ∷ 0 ∷ 0 ∷ 0 ∷ 0 ∷ [];
+      lead = record { next = 0 ∷ (n + 1) ∷ (n + 1) ∷ 1 ∷ 1 ∷ 0 ∷ 0 ∷ []; matched = 0 ∷ n ∷ n ∷ 0 ∷ 0 ∷ 0 ∷ 0 ∷ [] };
     }
 
 -- A good record settles its commit at an index.
@@ -54,8 +55,7 @@ follows-at commit =
       commit = commit;
       role = follower;
       votes = 0;
-      next = none-sent;
-      matched = none-sent;
+      lead = no-lead;
     }
 
 -- "append of term 4, previous index 1 and term 1, one entry of term .., leader's commit ..", from box 1.
@@ -139,7 +139,7 @@ readings =
 
 -- each reading holds, by computation
 pub readings-hold : every readings ≡ true
-unfolding readings leads settles-at majority ones good is-membership is-vote is-role are-votes is-sent sends-to is-other holds in-order
-    settled highest is-matched matching matches term-at follows-at offer joins-to alarms-at deliver on-append taken join lacks agreed stop passes
+unfolding readings leads settles-at majority ones good is-membership is-vote is-role are-votes is-progress sends-to is-other holds in-order
+    settled highest is-matched matching matches term-at follows-at offer joins-to alarms-at deliver term-of current on-append taken lacks agreed stop passes
     cuts-committed joined joining
 readings-hold = refl

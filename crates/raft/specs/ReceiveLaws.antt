@@ -21,11 +21,17 @@ use Rattle.frames.specs.Reading.{Reading, frame, refused, reading}
 use Rattle.frames.specs.OneSpelling.{frame-exactly}
 use Rattle.raft.specs.Majority.{bit, holds, majority, within}
 use Rattle.raft.specs.Newer.{as-new}
-use Rattle.raft.specs.Record.{State, follower, candidate, leader, last-index, last-term, term-at, of-box, is-other, is-vote, is-role, are-votes, is-sent, sends-to, is-sent-to, good}
+use Rattle.raft.specs.Record.{State, follower, candidate, leader, last-index, last-term, term-at, of-box, is-other, is-vote, is-role, are-votes, is-progress, sends-to, has-progress, good}
 use Rattle.raft.specs.Commit.{settle}
 use Rattle.raft.specs.Sends.{append-to}
-use Rattle.raft.specs.Step.{Outcome, done, refuse, leading, won}
-use Rattle.raft.specs.Receive.{taking, taken, grants, says-yes, voting, asked, vote-answer-to, on-vote-request, adding, counted, counts, on-vote-answer, lacks, agreed, stop, passes, joined, cuts-committed, following, joining, append-answer-to, join, on-append, match-after, next-heard, heard, sends-again, answered, hear, on-append-answer, deliver, is-for, sender, receiver, arrive, arrive-read, receive}
+use Rattle.raft.specs.Outcome.{Outcome, done, refuse}
+use Rattle.raft.specs.Winning.{leading, won}
+use Rattle.raft.specs.AnyMessage.{taking, taken}
+use Rattle.raft.specs.VoteRequest.{grants, voting, asked, vote-answer-to, on-vote-request}
+use Rattle.raft.specs.Receive.{sender, receiver, term-of, stale, current, deliver, is-for, arrive, arrive-read, receive}
+use Rattle.raft.specs.VoteAnswer.{adding, counted, counts, on-vote-answer}
+use Rattle.raft.specs.Append.{lacks, agreed, stop, passes, joined, cuts-committed, following, joining, append-answer-to, on-append}
+use Rattle.raft.specs.AppendAnswer.{match-after, next-heard, heard, sends-again, answered, hear, on-append-answer}
 use Rattle.raft.specs.MajorityLaws.{within-or, holds-or}
 use Rattle.raft.specs.CommitLaws.{by-test}
 use Rattle.raft.specs.RecordLaws.{box-range, range-box, Good, good-facts, facts-good, member-facts, self-voted, leader-sent}
@@ -96,20 +102,12 @@ ends-won : (P : State → List Message → Type 0) (s : State) → Led P (leadin
 unfolding won
 ends-won P s p = ends-done P _ _ p
 
--- What holds of a yes and of a no holds of a vote request's record and answer.
-pub vote-request-ends : (P : State → List Message → Type 0) (s : State) (from term index prior : ℕ)
-    → (says-yes s from term index prior ≡ true
-    → P (voting (taken term s) from) (vote-answer-to (voting (taken term s) from) from true ∷ []))
-    → (says-yes s from term index prior ≡ false → P (taken term s) (vote-answer-to (taken term s) from false ∷ []))
-    → Ends P (on-vote-request s from term index prior)
-unfolding on-vote-request asked
-vote-request-ends P s from term index prior yeah nay = ends-done P _ _ (go (says-yes s from term index prior) refl)
-  where
-    go : (b : Bool) → says-yes s from term index prior ≡ b
-        → P (cond b (voting (taken term s) from) (taken term s))
-        (vote-answer-to (cond b (voting (taken term s) from) (taken term s)) from b ∷ [])
-    go true e = yeah e
-    go false e = nay e
+-- What holds of a lower term's end, and of the kind's at the record with the term taken, holds of a message's end.
+deliver-ends : (P : State → List Message → Type 0) (s : State) (m : Message) → (term-of m < s .term → Ends P (stale m s))
+    → (s .term ≤ term-of m → Ends P (current m (taken (term-of m) s))) → Ends P (deliver m s)
+unfolding deliver
+deliver-ends P s m low rest =
+    by-test (Ends P) (ltb (term-of m) (s .term)) _ _ (λ e. low (ltb-true _ _ e)) (λ e. rest (ltb-false _ _ e))
 
 -- A yes is of the term taken, by a box that has voted for nobody else, to a log that is as new.
 pub record Grants (s : State) (from term index prior : ℕ) : Type 0 where
@@ -117,16 +115,25 @@ pub record Grants (s : State) (from term index prior : ℕ) : Type 0 where
   pub free : (eqb (taken term s .vote) 0 || eqb (taken term s .vote) from) ≡ true
   pub new : as-new index prior (last-index (taken term s)) (last-term (taken term s)) ≡ true
 
--- A yes says this.
-pub yes-facts : (s : State) (from term index prior : ℕ) → says-yes s from term index prior ≡ true → Grants s from term index prior
-unfolding says-yes grants
-yes-facts s from term index prior h =
-    let t = and-right (leb (s .term) term) _ h in
-    record {
-      current = leb-true _ _ (and-left (leb (s .term) term) _ h);
-      free = and-left (eqb (taken term s .vote) 0 || eqb (taken term s .vote) from) _ t;
-      new = and-right (eqb (taken term s .vote) 0 || eqb (taken term s .vote) from) _ t;
-    }
+-- What holds of a yes and of a no holds of a vote request's record and answer.
+pub vote-request-ends : (P : State → List Message → Type 0) (s : State) (from to term index prior : ℕ)
+    → (Grants s from term index prior → P (voting (taken term s) from) (vote-answer-to (voting (taken term s) from) from true ∷ []))
+    → P (taken term s) (vote-answer-to (taken term s) from false ∷ [])
+    → Ends P (deliver (vote-request from to term index prior) s)
+unfolding stale current term-of on-vote-request asked grants
+vote-request-ends P s from to term index prior yeah nay =
+    deliver-ends P s (vote-request from to term index prior)
+    (λ l. ends-done P _ _ (rw (taken-same term s (omega arith)) at nay))
+    (λ l. ends-done P _ _ (go l (grants (taken term s) from index prior) refl))
+  where
+    free : Bool
+    free = eqb (taken term s .vote) 0 || eqb (taken term s .vote) from
+
+    go : s .term ≤ term → (b : Bool) → grants (taken term s) from index prior ≡ b
+        → P (cond b (voting (taken term s) from) (taken term s))
+        (vote-answer-to (cond b (voting (taken term s) from) (taken term s)) from b ∷ [])
+    go l true e = yeah (record { current = l; free = and-left free _ e; new = and-right free _ e })
+    go l false e = nay
 
 -- A vote answer that counts is a yes of the box's own term, at a candidate.
 pub record Counts (s : State) (term reply : ℕ) : Type 0 where
@@ -135,26 +142,27 @@ pub record Counts (s : State) (term reply : ℕ) : Type 0 where
   pub said : reply ≡ 1
 
 -- The test says this, and that no term was taken.
-pub count-facts : (s : State) (term reply : ℕ) → counts s term reply ≡ true → (taken term s ≡ s) × Counts s term reply
+count-facts : (s : State) (term reply : ℕ) → s .term ≤ term → counts (taken term s) reply ≡ true → (taken term s ≡ s) × Counts s term reply
 unfolding counts
-count-facts s term reply h =
-    let t = four true (leb (s .term) term) (eqb (taken term s .role) candidate) (eqb reply 1) h in
-    let o = taken-none term s 0 (leb-true _ _ (t .1)) (eqb-true _ _ (t .2)) in
-    (o .0, record { same = o .1; stands = o .2; said = eqb-true _ _ (t .3) })
+count-facts s term reply l h =
+    let o = taken-none term s 0 l (eqb-true _ _ (and-left (eqb (taken term s .role) candidate) _ h)) in
+    (o .0, record { same = o .1; stands = o .2; said = eqb-true _ _ (and-right (eqb (taken term s .role) candidate) _ h) })
 
 -- What holds of a box that wins by it, of one that does not, and of one that only takes the term, holds of a vote answer's end.
-pub vote-answer-ends : (P : State → List Message → Type 0) (s : State) (from term reply : ℕ)
+pub vote-answer-ends : (P : State → List Message → Type 0) (s : State) (from to term reply : ℕ)
     → (Counts s term reply → majority (s .members) (adding s from .votes) ≡ true → Led P (leading (adding s from)))
     → (Counts s term reply → majority (s .members) (adding s from .votes) ≡ false → P (adding s from) [])
-    → (counts s term reply ≡ false → P (taken term s) [])
-    → Ends P (on-vote-answer s from term reply)
-unfolding on-vote-answer counted adding
-vote-answer-ends P s from term reply wins adds takes =
-    by-test (Ends P) (counts s term reply) _ _
-    (λ e. let f = count-facts s term reply e in
+    → P (taken term s) []
+    → Ends P (deliver (vote-answer from to term reply) s)
+unfolding stale current term-of on-vote-answer counted adding
+vote-answer-ends P s from to term reply wins adds takes =
+    deliver-ends P s (vote-answer from to term reply)
+    (λ l. ends-done P _ _ (rw (taken-same term s (omega arith)) at takes))
+    (λ l. by-test (Ends P) (counts (taken term s) reply) _ _
+    (λ e. let f = count-facts s term reply l e in
     rw (f .0) (by-test (Ends P) (majority (s .members) (adding s from .votes)) _ _
     (λ m. ends-won P (adding s from) (wins (f .1) m)) (λ m. ends-done P _ _ (adds (f .1) m))))
-    (λ e. ends-done P _ _ (takes e))
+    (λ e. ends-done P _ _ takes))
 
 -- An append is looked at in a term that is no lower, by a box that does not lead in it.
 pub record Looks (s : State) (term : ℕ) : Type 0 where
@@ -162,18 +170,18 @@ pub record Looks (s : State) (term : ℕ) : Type 0 where
   pub unled : taken term s .role ≡ leader → ⊥
 
 -- What holds of the no to a lower term, of the no for want of the previous entry, and of the yes, holds of an append's end.
-pub append-ends : (P : State → List Message → Type 0) (s : State) (from term index prior commit : ℕ) (es : List Entry)
+pub append-ends : (P : State → List Message → Type 0) (s : State) (from to term index prior commit : ℕ) (es : List Entry)
     → (term < s .term → P s (append-answer-to s from 0 false ∷ []))
     → (Looks s term → lacks (taken term s .log) index prior ≡ true
     → P (following (taken term s)) (append-answer-to (following (taken term s)) from 0 false ∷ []))
     → (Looks s term → lacks (taken term s .log) index prior ≡ false → cuts-committed (taken term s) index es ≡ false
     → P (joining (taken term s) index commit es) (append-answer-to (joining (taken term s) index commit es) from (index + length es) true ∷ []))
-    → Ends P (on-append s from term index prior commit es)
-unfolding on-append join
-append-ends P s from term index prior commit es low wants joins =
-    by-test (Ends P) (ltb term (s .term)) _ _ (λ e. ends-done P _ _ (low (ltb-true _ _ e)))
-    (λ e. by-test (Ends P) (eqb (taken term s .role) leader) _ _ (λ r. ends-refuse P 6)
-    (λ r. let looks : Looks s term = record { current = ltb-false _ _ e; unled = eqb-false _ _ r } in
+    → Ends P (deliver (append from to term index prior commit es) s)
+unfolding stale current term-of on-append
+append-ends P s from to term index prior commit es low wants joins =
+    deliver-ends P s (append from to term index prior commit es) (λ l. ends-done P _ _ (low l))
+    (λ l. by-test (Ends P) (eqb (taken term s .role) leader) _ _ (λ r. ends-refuse P 6)
+    (λ r. let looks : Looks s term = record { current = l; unled = eqb-false _ _ r } in
     by-test (Ends P) (lacks (taken term s .log) index prior) _ _ (λ h. ends-done P _ _ (wants looks h))
     (λ h. by-test (Ends P) (cuts-committed (taken term s) index es) _ _ (λ c. ends-refuse P 7)
     (λ c. ends-done P _ _ (joins looks h c)))))
@@ -190,25 +198,26 @@ settled-heard s from reply index = settle (heard s from reply index)
 
 -- What holds of a leader that sends an append again, of one that does not, and of a box that only takes the term, holds of an append
 -- answer's end.
-pub append-answer-ends : (P : State → List Message → Type 0) (s : State) (from term reply index : ℕ)
+pub append-answer-ends : (P : State → List Message → Type 0) (s : State) (from to term reply index : ℕ)
     → (Hears s term reply index → sends-again (settled-heard s from reply index) from reply ≡ true
     → P (settled-heard s from reply index) (append-to (settled-heard s from reply index) from ∷ []))
     → (Hears s term reply index → sends-again (settled-heard s from reply index) from reply ≡ false → P (settled-heard s from reply index) [])
-    → ((leb (s .term) term && eqb (taken term s .role) leader) ≡ false → P (taken term s) [])
-    → Ends P (on-append-answer s from term reply index)
-unfolding on-append-answer hear answered
-append-answer-ends P s from term reply index again ends takes =
-    by-test (Ends P) (leb (s .term) term && eqb (taken term s .role) leader) _ _ at-leader (λ e. ends-done P _ _ (takes e))
+    → P (taken term s) []
+    → Ends P (deliver (append-answer from to term reply index) s)
+unfolding stale current term-of on-append-answer hear answered
+append-answer-ends P s from to term reply index again ends takes =
+    deliver-ends P s (append-answer from to term reply index)
+    (λ l. ends-done P _ _ (rw (taken-same term s (omega arith)) at takes))
+    (λ l. by-test (Ends P) (eqb (taken term s .role) leader) _ _ (at-leader l) (λ e. ends-done P _ _ takes))
   where
     heard-ends : Hears s term reply index → Ends P (answered (settled-heard s from reply index) from reply)
     heard-ends h =
         ends-done P _ _
         (by-test (P (settled-heard s from reply index)) (sends-again (settled-heard s from reply index) from reply) _ _ (again h) (ends h))
 
-    at-leader : (leb (s .term) term && eqb (taken term s .role) leader) ≡ true → Ends P (hear (taken term s) from reply index)
-    at-leader e =
-        let role = eqb-true (taken term s .role) leader (and-right (leb (s .term) term) _ e) in
-        let o = taken-none term s 1 (leb-true _ _ (and-left (leb (s .term) term) _ e)) role in
+    at-leader : s .term ≤ term → eqb (taken term s .role) leader ≡ true → Ends P (hear (taken term s) from reply index)
+    at-leader l e =
+        let o = taken-none term s 1 l (eqb-true (taken term s .role) leader e) in
         rw (o .0) (by-test (Ends P) (eqb reply 1 && ltb (last-index s) index) _ _ (λ h. ends-refuse P 8)
         (λ h. heard-ends (record { same = o .1; leads = o .2; known = λ y. ltb-false (last-index s) index (rw (eq-eqb reply 1 y) at h) })))
 
@@ -258,13 +267,6 @@ receive-ends P s each bytes = go (reading bytes) refl
 
 -- ---- what the rules of frames say of a message that arrives
 
--- A message's term.
-unfoldable pub term-of : Message → ℕ
-term-of (vote-request from to term index prior) = term
-term-of (vote-answer from to term said) = term
-term-of (append from to term index prior commit es) = term
-term-of (append-answer from to term said index) = term
-
 -- a frame's start, clause by clause
 start-facts : (s : State) (from to term : ℕ) → is-other (s .me) (s .members) from ≡ true → is-start from to term ≡ true → Sender s from term
 start-facts s from to term o h =
@@ -305,7 +307,7 @@ offer-facts from to term index prior commit es h =
 
 -- A good record that takes a term that is not below its own is good,
 pub good-taking : (term : ℕ) (s : State) → Good s → s .term ≤ term → Good (taking term s)
-unfolding taking is-vote is-role are-votes is-sent sends-to
+unfolding taking is-vote is-role are-votes is-progress sends-to
 good-taking term s g l =
     record {
       membership = g .membership;
@@ -372,7 +374,7 @@ good-adding s from g r l h m =
 
 -- A box that follows is good.
 pub good-following : (s : State) → Good s → Good (following s)
-unfolding following is-role are-votes is-sent sends-to
+unfolding following is-role are-votes is-progress sends-to
 good-following s g =
     record {
       membership = g .membership;
@@ -450,7 +452,7 @@ joined-order term log index prior es n o h =
 -- commit.
 pub good-joining : (s : State) (index prior commit : ℕ) (es : List Entry) → Good s → lacks (s .log) index prior ≡ false
     → cuts-committed s index es ≡ false → Offers (s .term) index prior es → Good (joining s index commit es)
-unfolding joining cuts-committed is-role are-votes is-sent sends-to
+unfolding joining cuts-committed is-role are-votes is-progress sends-to
 good-joining s index prior commit es g n c o =
     record {
       membership = g .membership;
@@ -489,8 +491,8 @@ set-there (x ∷ l) zero n h = refl
 set-there (x ∷ l) (suc i) n h = set-there l i n h
 
 -- what lies so is what the rule asks for
-facts-sent : (last next matched : ℕ) → matched < next → next ≤ last + 1 → is-sent true last next matched ≡ true
-unfolding is-sent
+facts-sent : (last next matched : ℕ) → matched < next → next ≤ last + 1 → is-progress true last next matched ≡ true
+unfolding is-progress
 facts-sent last next matched l h = rw (lt-ltb _ _ l, le-leb _ _ h)
 
 -- match stays below next, and next at most one past the last index, where a yes names no index past it
@@ -522,24 +524,24 @@ good-heard s from reply index g r l h o k =
       sent = λ i a b. go i a b (ℕ-discrete i from);
     }
   where
-    go : (i : ℕ) → 1 ≤ i → i ≤ boxes → Dec (i ≡ from) → is-sent-to (heard s from reply index) i ≡ true
+    go : (i : ℕ) → 1 ≤ i → i ≤ boxes → Dec (i ≡ from) → has-progress (heard s from reply index) i ≡ true
     go i a b (yes e) =
         let f = leader-sent s g r from l h o in
-        let t = heard-range (last-index s) reply index (of-box (s .next) from) (of-box (s .matched) from) (f .0) (f .1) k in
-        let low = set-most (s .matched) (from - 1) (match-after reply index (of-box (s .matched) from)) in
-        rw (e, r, o, set-there (s .next) (from - 1) _ (omega arith)) (facts-sent _ _ _ (omega arith) (t .1))
+        let t = heard-range (last-index s) reply index (of-box (s .lead .next) from) (of-box (s .lead .matched) from) (f .0) (f .1) k in
+        let low = set-most (s .lead .matched) (from - 1) (match-after reply index (of-box (s .lead .matched) from)) in
+        rw (e, r, o, set-there (s .lead .next) (from - 1) _ (omega arith)) (facts-sent _ _ _ (omega arith) (t .1))
     go i a b (no e) =
         let apart : (i - 1 ≡ from - 1 → ⊥) = λ x. e (omega arith) in
-        rw (getD-set-other (s .next) (from - 1) (i - 1) _ 0 apart, getD-set-other (s .matched) (from - 1) (i - 1) _ 0 apart) (g .sent i a b)
+        rw (getD-set-other (s .lead .next) (from - 1) (i - 1) _ 0 apart, getD-set-other (s .lead .matched) (from - 1) (i - 1) _ 0 apart) (g .sent i a b)
 
 -- ---- A good record stays good
 
 -- A box that grants another member its vote is good.
-pub good-granted : (s : State) (from term index prior : ℕ) → Good s → Sender s from term → says-yes s from term index prior ≡ true
+pub good-granted : (s : State) (from term index prior : ℕ) → Good s → Sender s from term → Grants s from term index prior
     → Good (voting (taken term s) from)
 good-granted s from term index prior g d y =
     good-voting (taken term s) from (good-taken term s g) (d .least) (d .most)
-    (rw (taken-keeps term s .1) (other-held (s .me) (s .members) from (d .other) .1)) (yes-facts s from term index prior y .free)
+    (rw (taken-keeps term s .1) (other-held (s .me) (s .members) from (d .other) .1)) (y .free)
 
 -- A candidate that counts a vote is good,
 pub good-counted : (s : State) (from term reply : ℕ) → Good s → Sender s from term → Counts s term reply → Good (adding s from)
@@ -566,21 +568,21 @@ good-settled-heard s from term reply index g d h =
 
 -- It stays good over each message that arrives,
 pub deliver-good : (s : State) → Good s → (m : Message) → Arrives s m → Ends (λ t ms. Good t) (deliver m s)
-unfolding deliver sender term-of
+unfolding sender term-of
 deliver-good s g (vote-request from to term index prior) a =
-    vote-request-ends (λ t ms. Good t) s from term index prior
-    (good-granted s from term index prior g (sent-by s (vote-request from to term index prior) a)) (λ n. good-taken term s g)
+    vote-request-ends (λ t ms. Good t) s from to term index prior
+    (good-granted s from term index prior g (sent-by s (vote-request from to term index prior) a)) (good-taken term s g)
 deliver-good s g (vote-answer from to term reply) a =
     let d = sent-by s (vote-answer from to term reply) a in
-    vote-answer-ends (λ t ms. Good t) s from term reply (λ c m. good-settle _ (good-elected s from term reply g d c))
-    (λ c m. good-counted s from term reply g d c) (λ n. good-taken term s g)
+    vote-answer-ends (λ t ms. Good t) s from to term reply (λ c m. good-settle _ (good-elected s from term reply g d c))
+    (λ c m. good-counted s from term reply g d c) (good-taken term s g)
 deliver-good s g (append from to term index prior commit es) a =
-    append-ends (λ t ms. Good t) s from term index prior commit es (λ l. g) (λ l n. good-following _ (good-taken term s g))
+    append-ends (λ t ms. Good t) s from to term index prior commit es (λ l. g) (λ l n. good-following _ (good-taken term s g))
     (λ l n c. good-joined s term index prior commit es g (l .current) n c (offer-facts from to term index prior commit es (a .obeyed)))
 deliver-good s g (append-answer from to term reply index) a =
     let d = sent-by s (append-answer from to term reply index) a in
-    append-answer-ends (λ t ms. Good t) s from term reply index (λ h b. good-settled-heard s from term reply index g d h)
-    (λ h b. good-settled-heard s from term reply index g d h) (λ n. good-taken term s g)
+    append-answer-ends (λ t ms. Good t) s from to term reply index (λ h b. good-settled-heard s from term reply index g d h)
+    (λ h b. good-settled-heard s from term reply index g d h) (good-taken term s g)
 
 -- and so over any bytes.
 pub receive-good : (bytes : List ℕ) (s : State) → good s ≡ true → (t : State) (ms : List Message) → receive bytes s ≡ done t ms → good t ≡ true

@@ -14,13 +14,19 @@ use Rattle.frames.specs.Rules.{obeys}
 use Rattle.raft.specs.Record.{State, good}
 use Rattle.raft.specs.Commit.{settle}
 use Rattle.raft.specs.Sends.{append-to}
-use Rattle.raft.specs.Step.{done, leading}
-use Rattle.raft.specs.Receive.{taking, taken, voting, adding, agreed, stop, passes, joined, following, joining, vote-answer-to, append-answer-to, heard, deliver, sender, receive}
+use Rattle.raft.specs.Outcome.{done}
+use Rattle.raft.specs.Winning.{leading}
+use Rattle.raft.specs.AnyMessage.{taking, taken}
+use Rattle.raft.specs.VoteRequest.{voting, vote-answer-to}
+use Rattle.raft.specs.VoteAnswer.{adding}
+use Rattle.raft.specs.Append.{agreed, stop, passes, joined, following, joining, append-answer-to}
+use Rattle.raft.specs.AppendAnswer.{heard}
+use Rattle.raft.specs.Receive.{deliver, sender, receive, term-of}
 use Rattle.raft.specs.CommitLaws.{by-test}
 use Rattle.raft.specs.RecordLaws.{Good, good-facts, member-facts}
 use Rattle.raft.specs.SendLaws.{start-there, append-obeys, All, Obey, settled-obey}
 use Rattle.raft.specs.FitLaws.{all-take, all-drop, eight-bytes, Fits, leading-fits, settle-fits, append-sized, Sized, settled-sized}
-use Rattle.raft.specs.ReceiveLaws.{taken-by, taken-least, Ends, vote-request-ends, vote-answer-ends, append-ends, Hears, settled-heard, append-answer-ends, Sender, Arrives, receive-ends, term-of, sent-by, offer-facts, good-taken, good-following, good-granted, good-elected, good-joined, good-settled-heard}
+use Rattle.raft.specs.ReceiveLaws.{taken-by, taken-least, Ends, vote-request-ends, vote-answer-ends, append-ends, Hears, settled-heard, append-answer-ends, Sender, Arrives, receive-ends, sent-by, offer-facts, good-taken, good-following, good-granted, good-elected, good-joined, good-settled-heard}
 
 -- ---- one answer
 
@@ -49,28 +55,28 @@ again-obeys s from term reply index g d h =
 
 -- What a message that arrives makes a good record send obeys,
 pub deliver-obeys : (s : State) → Good s → (m : Message) → Arrives s m → Ends (λ t ms. Obey ms) (deliver m s)
-unfolding deliver sender term-of All voting following joining leading
+unfolding sender term-of All voting following joining leading
 deliver-obeys s g (vote-request from to term index prior) a =
     let d = sent-by s (vote-request from to term index prior) a in
     let e : 1 ≤ taken term s .term = omega (arith, taken-least term s) in
-    vote-request-ends (λ t ms. Obey ms) s from term index prior
+    vote-request-ends (λ t ms. Obey ms) s from to term index prior
     (λ y. (vote-answer-obeys _ (good-granted s from term index prior g d y) e from (d .least) (d .most) true, tt))
-    (λ y. (vote-answer-obeys _ (good-taken term s g) e from (d .least) (d .most) false, tt))
+    (vote-answer-obeys _ (good-taken term s g) e from (d .least) (d .most) false, tt)
 deliver-obeys s g (vote-answer from to term reply) a =
     let d = sent-by s (vote-answer from to term reply) a in
-    vote-answer-ends (λ t ms. Obey ms) s from term reply
-    (λ c m. settled-obey (leading (adding s from)) (good-elected s from term reply g d c) refl) (λ c m. tt) (λ n. tt)
+    vote-answer-ends (λ t ms. Obey ms) s from to term reply
+    (λ c m. settled-obey (leading (adding s from)) (good-elected s from term reply g d c) refl) (λ c m. tt) tt
 deliver-obeys s g (append from to term index prior commit es) a =
     let d = sent-by s (append from to term index prior commit es) a in
     let o = offer-facts from to term index prior commit es (a .obeyed) in
     let e : 1 ≤ taken term s .term = omega (arith, taken-least term s) in
-    append-ends (λ t ms. Obey ms) s from term index prior commit es
+    append-ends (λ t ms. Obey ms) s from to term index prior commit es
     (λ l. (no-obeys s g (omega arith) from (d .least) (d .most), tt))
     (λ l n. (no-obeys _ (good-following _ (good-taken term s g)) e from (d .least) (d .most), tt))
     (λ l n c. (yes-obeys _ (good-joined s term index prior commit es g (l .current) n c o) e from (d .least) (d .most) _ (o .room), tt))
 deliver-obeys s g (append-answer from to term reply index) a =
     let d = sent-by s (append-answer from to term reply index) a in
-    append-answer-ends (λ t ms. Obey ms) s from term reply index (λ h b. (again-obeys s from term reply index g d h, tt)) (λ h b. tt) (λ n. tt)
+    append-answer-ends (λ t ms. Obey ms) s from to term reply index (λ h b. (again-obeys s from term reply index g d h, tt)) (λ h b. tt) tt
 
 -- and so does what any bytes make it send.
 pub receive-obeys : (bytes : List ℕ) (s : State) → good s ≡ true → (t : State) (ms : List Message) → receive bytes s ≡ done t ms → Obey ms
@@ -172,27 +178,27 @@ again-sized s from term reply index g d h f =
 
 -- What a message that arrives comes to fits, the record and the messages,
 pub deliver-fits : (s : State) → Good s → Fits s → (m : Message) → Arrives s m → Ends (λ t ms. Fits t × Sized ms) (deliver m s)
-unfolding deliver sender term-of All leading
+unfolding sender term-of All leading
 deliver-fits s g f (vote-request from to term index prior) a =
     let d = sent-by s (vote-request from to term index prior) a in
     let u = taken-fits term s f (term-sized (vote-request from to term index prior) (a .fits)) in
     let v = voting-fits (taken term s) from u in
-    vote-request-ends (λ t ms. Fits t × Sized ms) s from term index prior
+    vote-request-ends (λ t ms. Fits t × Sized ms) s from to term index prior
     (λ y. (v, (vote-answer-sized _ (good-granted s from term index prior g d y) v from (d .most) true, tt)))
-    (λ y. (u, (vote-answer-sized _ (good-taken term s g) u from (d .most) false, tt)))
+    (u, (vote-answer-sized _ (good-taken term s g) u from (d .most) false, tt))
 deliver-fits s g f (vote-answer from to term reply) a =
     let d = sent-by s (vote-answer from to term reply) a in
     let u = taken-fits term s f (term-sized (vote-answer from to term reply) (a .fits)) in
-    vote-answer-ends (λ t ms. Fits t × Sized ms) s from term reply
+    vote-answer-ends (λ t ms. Fits t × Sized ms) s from to term reply
     (λ c m. settled-sized (leading (adding s from)) (good-elected s from term reply g d c) (leading-fits _ (adding-fits s from f)) refl)
-    (λ c m. (adding-fits s from f, tt)) (λ n. (u, tt))
+    (λ c m. (adding-fits s from f, tt)) (u, tt)
 deliver-fits s g f (append from to term index prior commit es) a =
     let d = sent-by s (append from to term index prior commit es) a in
     let o = offer-facts from to term index prior commit es (a .obeyed) in
     let u = taken-fits term s f (term-sized (append from to term index prior commit es) (a .fits)) in
     let v = following-fits (taken term s) u in
     let w = joining-fits (taken term s) index commit es u (append-orders from to term index prior commit es (a .fits)) in
-    append-ends (λ t ms. Fits t × Sized ms) s from term index prior commit es
+    append-ends (λ t ms. Fits t × Sized ms) s from to term index prior commit es
     (λ l. (f, (append-answer-sized s g f from (d .most) 0 (omega arith) false, tt)))
     (λ l n. (v, (append-answer-sized _ (good-following _ (good-taken term s g)) v from (d .most) 0 (omega arith) false, tt)))
     (λ l n c. (w, (append-answer-sized _ (good-joined s term index prior commit es g (l .current) n c o) w from (d .most) _ (o .room) true, tt)))
@@ -200,8 +206,8 @@ deliver-fits s g f (append-answer from to term reply index) a =
     let d = sent-by s (append-answer from to term reply index) a in
     let u = taken-fits term s f (term-sized (append-answer from to term reply index) (a .fits)) in
     let v = settle-fits _ (heard-fits s from reply index f) in
-    append-answer-ends (λ t ms. Fits t × Sized ms) s from term reply index
-    (λ h b. (v, (again-sized s from term reply index g d h v, tt))) (λ h b. (v, tt)) (λ n. (u, tt))
+    append-answer-ends (λ t ms. Fits t × Sized ms) s from to term reply index
+    (λ h b. (v, (again-sized s from term reply index g d h v, tt))) (λ h b. (v, tt)) (u, tt)
 
 -- and so does what any bytes come to.
 pub receive-fits : (bytes : List ℕ) (s : State) → good s ≡ true → Fits s

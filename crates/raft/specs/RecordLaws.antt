@@ -10,7 +10,7 @@ use Rattle.frames.specs.Limits.{boxes, log-limit}
 use Rattle.frames.specs.Rules.{is-box, in-order}
 use Rattle.frames.specs.Clauses.{four}
 use Rattle.raft.specs.Majority.{holds}
-use Rattle.raft.specs.Record.{State, leader, last-index, of-box, is-other, fresh, is-membership, is-vote, is-role, are-votes, is-sent, sends-to, is-sent-to, good}
+use Rattle.raft.specs.Record.{State, leader, last-index, of-box, is-other, fresh, is-membership, is-vote, is-role, are-votes, is-progress, sends-to, has-progress, good}
 pub use Rattle.raft.specs.MajorityLaws.{at-box}
 
 -- a box's number is from 1 to 7
@@ -32,7 +32,7 @@ pub record Good (s : State) : Type 0 where
   pub commit : s .commit ≤ last-index s
   pub role : is-role (s .role) (s .term) (s .vote) (s .me) ≡ true
   pub votes : are-votes (s .role) (s .votes) (s .members) (s .me) ≡ true
-  pub sent : (i : ℕ) → 1 ≤ i → i ≤ boxes → is-sent-to s i ≡ true
+  pub sent : (i : ℕ) → 1 ≤ i → i ≤ boxes → has-progress s i ≡ true
 
 -- the rules of the stored part
 abbrev stored : State → Bool
@@ -49,8 +49,8 @@ unsent s =
 pub good-facts : (s : State) → good s ≡ true → Good s
 unfolding good
 good-facts s h =
-    let c = four (unsent s && is-sent-to s 1 && is-sent-to s 2 && is-sent-to s 3 && is-sent-to s 4) _ _ _ h in
-    let b = four (unsent s && is-sent-to s 1) _ _ _ (c .0) in
+    let c = four (unsent s && has-progress s 1 && has-progress s 2 && has-progress s 3 && has-progress s 4) _ _ _ h in
+    let b = four (unsent s && has-progress s 1) _ _ _ (c .0) in
     let a = four (stored s) _ _ _ (and-left (unsent s) _ (b .0)) in
     let r = four (is-membership (s .me) (s .members)) _ _ _ (a .0) in
     record {
@@ -61,7 +61,7 @@ good-facts s h =
       commit = leb-true _ _ (a .1);
       role = a .2;
       votes = a .3;
-      sent = at-box (λ i. is-sent-to s i ≡ true) (and-right (unsent s) _ (b .0)) (b .1) (b .2) (b .3) (c .1) (c .2) (c .3);
+      sent = at-box (λ i. has-progress s i ≡ true) (and-right (unsent s) _ (b .0)) (b .1) (b .2) (b .3) (c .1) (c .2) (c .3);
     }
 
 -- What keeps every rule is a good record.
@@ -85,7 +85,7 @@ facts-good s g =
       sent 7 refl,
     )
   where
-    sent : (i : ℕ) → is-box i ≡ true → is-sent-to s i ≡ true
+    sent : (i : ℕ) → is-box i ≡ true → has-progress s i ≡ true
     sent i b = g .sent i (box-range i b .0) (box-range i b .1)
 
 -- ---- what the rules say
@@ -113,14 +113,14 @@ self-voted s g r =
     (eqb-true _ _ (p .2), leb-true _ _ (p .3))
 
 -- Where a box sends, match is below next, and next is at most one past the last index.
-pub sent-facts : (last next matched : ℕ) → is-sent true last next matched ≡ true → (matched < next) × (next ≤ last + 1)
-unfolding is-sent
+pub sent-facts : (last next matched : ℕ) → is-progress true last next matched ≡ true → (matched < next) × (next ≤ last + 1)
+unfolding is-progress
 sent-facts last next matched h =
     (ltb-true _ _ (and-left (ltb matched next) _ h), leb-true _ _ (and-right (ltb matched next) _ h))
 
 -- So it is at a leader for each other member.
 pub leader-sent : (s : State) → Good s → s .role ≡ leader → (i : ℕ) → 1 ≤ i → i ≤ boxes → is-other (s .me) (s .members) i ≡ true
-    → (of-box (s .matched) i < of-box (s .next) i) × (of-box (s .next) i ≤ last-index s + 1)
+    → (of-box (s .lead .matched) i < of-box (s .lead .next) i) × (of-box (s .lead .next) i ≤ last-index s + 1)
 unfolding sends-to
 leader-sent s g r i l h o = sent-facts _ _ _ (rw (r, o) at (g .sent i l h))
 
@@ -128,5 +128,5 @@ leader-sent s g r i l h o = sent-facts _ _ _ (rw (r, o) at (g .sent i l h))
 
 -- A fresh box of a membership is good.
 pub fresh-good : (me members : ℕ) → is-membership me members ≡ true → good (fresh me members) ≡ true
-unfolding good fresh is-vote is-role are-votes is-sent sends-to in-order
+unfolding good fresh is-vote is-role are-votes is-progress sends-to in-order
 fresh-good me members h = rw h

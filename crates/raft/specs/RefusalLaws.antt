@@ -10,8 +10,17 @@ use Rattle.frames.specs.Message.{Message, vote-request, vote-answer, append, ap
 use Rattle.frames.specs.Reading.{Reading, frame, refused, reading}
 use Rattle.raft.specs.Majority.{bit, majority}
 use Rattle.raft.specs.Record.{State, leader, last-index}
-use Rattle.raft.specs.Step.{Outcome, done, refuse, last-of-terms, won, timeout, order, prompt}
-use Rattle.raft.specs.Receive.{taken, counts, counted, lacks, cuts-committed, accept, on-vote-request, on-vote-answer, join, on-append, answered, hear, on-append-answer, deliver, is-for, sender, receiver, arrive, arrive-read, receive}
+use Rattle.raft.specs.Outcome.{Outcome, done, refuse}
+use Rattle.raft.specs.Timeout.{last-of-terms, timeout}
+use Rattle.raft.specs.Winning.{won}
+use Rattle.raft.specs.Order.{order}
+use Rattle.raft.specs.Prompt.{prompt}
+use Rattle.raft.specs.AnyMessage.{taken}
+use Rattle.raft.specs.VoteAnswer.{counts, counted, on-vote-answer}
+use Rattle.raft.specs.Append.{lacks, cuts-committed, accept, on-append}
+use Rattle.raft.specs.VoteRequest.{on-vote-request}
+use Rattle.raft.specs.AppendAnswer.{answered, hear, on-append-answer}
+use Rattle.raft.specs.Receive.{sender, receiver, term-of, stale, current, deliver, is-for, arrive, arrive-read, receive}
 
 -- a refusal's number is at least 1
 unfoldable pub Numbered : Outcome → Type 0
@@ -63,9 +72,9 @@ accept-numbered : (s : State) (from index commit : ℕ) (es : List Entry) → Nu
 accept-numbered s from index commit es = by-test (cuts-committed s index es) _ _ (numbers 7 (omega arith)) (ends _ _)
 
 -- 6, then 7
-join-numbered : (s : State) (from index prior commit : ℕ) (es : List Entry) → Numbered (join s from index prior commit es)
-unfolding join
-join-numbered s from index prior commit es =
+append-numbered : (s : State) (from index prior commit : ℕ) (es : List Entry) → Numbered (on-append s from index prior commit es)
+unfolding on-append
+append-numbered s from index prior commit es =
     by-test (eqb (s .role) leader) _ _ (numbers 6 (omega arith))
     (by-test (lacks (s .log) index prior) _ _ (ends _ _) (accept-numbered s from index commit es))
 
@@ -74,14 +83,23 @@ hear-numbered : (s : State) (from reply index : ℕ) → Numbered (hear s from r
 unfolding hear answered
 hear-numbered s from reply index = by-test (eqb reply 1 && ltb (last-index s) index) _ _ (numbers 8 (omega arith)) (ends _ _)
 
+stale-numbered : (m : Message) (s : State) → Numbered (stale m s)
+unfolding stale
+stale-numbered (vote-request from to term index prior) s = ends _ _
+stale-numbered (vote-answer from to term said) s = ends _ _
+stale-numbered (append from to term index prior commit es) s = ends _ _
+stale-numbered (append-answer from to term said index) s = ends _ _
+
+current-numbered : (m : Message) (s : State) → Numbered (current m s)
+unfolding current on-vote-request on-vote-answer on-append-answer
+current-numbered (vote-request from to term index prior) s = ends _ _
+current-numbered (vote-answer from to term said) s = by-test (counts s said) _ _ (counted-numbered _) (ends _ _)
+current-numbered (append from to term index prior commit es) s = append-numbered s from index prior commit es
+current-numbered (append-answer from to term said index) s = by-test (eqb (s .role) leader) _ _ (hear-numbered s from said index) (ends _ _)
+
 deliver-numbered : (m : Message) (s : State) → Numbered (deliver m s)
-unfolding deliver on-vote-request on-vote-answer on-append on-append-answer
-deliver-numbered (vote-request from to term index prior) s = ends _ _
-deliver-numbered (vote-answer from to term said) s = by-test (counts s term said) _ _ (counted-numbered _) (ends _ _)
-deliver-numbered (append from to term index prior commit es) s =
-    by-test (ltb term (s .term)) _ _ (ends _ _) (join-numbered (taken term s) from index prior commit es)
-deliver-numbered (append-answer from to term said index) s =
-    by-test (leb (s .term) term && eqb (taken term s .role) leader) _ _ (hear-numbered (taken term s) from said index) (ends _ _)
+unfolding deliver
+deliver-numbered m s = by-test (ltb (term-of m) (s .term)) _ _ (stale-numbered m s) (current-numbered m (taken (term-of m) s))
 
 -- 1 and 2
 read-numbered : (r : Reading) (s : State) → Numbered (arrive-read r s)

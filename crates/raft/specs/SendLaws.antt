@@ -14,7 +14,11 @@ use Rattle.frames.specs.Fields.{no-entry}
 use Rattle.raft.specs.Record.{State, leader, last-index, last-term, term-at, of-box, is-other, good}
 use Rattle.raft.specs.Commit.{settle}
 use Rattle.raft.specs.Sends.{vote-request-to, append-after, append-to, to-others, vote-requests, appends}
-use Rattle.raft.specs.Step.{done, standing, leading, timeout, ordered, order, prompt}
+use Rattle.raft.specs.Outcome.{done}
+use Rattle.raft.specs.Timeout.{standing, timeout}
+use Rattle.raft.specs.Winning.{leading}
+use Rattle.raft.specs.Order.{ordered, order}
+use Rattle.raft.specs.Prompt.{prompt}
 use Rattle.raft.specs.RecordLaws.{range-box, Good, good-facts, member-facts, self-voted, leader-sent}
 use Rattle.raft.specs.StepLaws.{in-order-most, follows-facts, facts-follow, good-standing, good-settle, good-ordered, good-won, timeout-ends, order-ends, prompt-ends}
 
@@ -104,7 +108,7 @@ append-after-obeys s g t p l i least most =
 pub append-obeys : (s : State) → Good s → s .role ≡ leader → (i : ℕ) → 1 ≤ i → i ≤ boxes → is-other (s .me) (s .members) i ≡ true
     → obeys (append-to s i) ≡ true
 append-obeys s g r i l h o =
-    append-after-obeys s g (self-voted s g (omega arith) .1) (of-box (s .next) i - 1) (omega (arith, leader-sent s g r i l h o)) i l h
+    append-after-obeys s g (self-voted s g (omega arith) .1) (of-box (s .lead .next) i - 1) (omega (arith, leader-sent s g r i l h o)) i l h
 
 -- ---- every message of a step
 

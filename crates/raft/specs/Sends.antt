@@ -17,7 +17,7 @@ append-after s previous i =
     append (s .me) i (s .term) previous (term-at (s .log) previous) (s .commit) (take entry-limit (drop previous (s .log)))
 
 abbrev pub append-to : State → ℕ → Message
-append-to s i = append-after s (of-box (s .next) i - 1) i
+append-to s i = append-after s (of-box (s .lead .next) i - 1) i
 
 -- A message to each other member, "in rising box number": from box i on, n boxes.
 unfoldable pub to-others : State → (ℕ → Message) → ℕ → ℕ → List Message

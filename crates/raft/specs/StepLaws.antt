@@ -14,10 +14,14 @@ use Rattle.frames.specs.Message.{Message}
 use Rattle.frames.specs.Rules.{in-order}
 use Rattle.frames.specs.Clauses.{four}
 use Rattle.raft.specs.Majority.{bit, holds, majority, within}
-use Rattle.raft.specs.Record.{State, candidate, leader, last-index, of-box, is-other, none-sent, is-vote, is-role, are-votes, is-sent, sends-to, is-sent-to, good}
+use Rattle.raft.specs.Record.{State, candidate, leader, last-index, of-box, is-other, zeros, is-vote, is-role, are-votes, is-progress, sends-to, has-progress, good}
 use Rattle.raft.specs.Commit.{highest, settled, settle}
 use Rattle.raft.specs.Sends.{vote-requests, appends}
-use Rattle.raft.specs.Step.{done, refuse, last-of-terms, standing, next-after, leading, led, won, timeout, ordered, order, prompt}
+use Rattle.raft.specs.Outcome.{done, refuse}
+use Rattle.raft.specs.Timeout.{last-of-terms, standing, timeout}
+use Rattle.raft.specs.Winning.{next-after, leading, led, won}
+use Rattle.raft.specs.Order.{ordered, order}
+use Rattle.raft.specs.Prompt.{prompt}
 use Rattle.raft.specs.RecordLaws.{at-box, range-box, sent-facts, Good, good-facts, facts-good, Member, member-facts, self-voted}
 use Rattle.raft.specs.CommitLaws.{settled-most}
 
@@ -86,29 +90,29 @@ own-bit (suc j) members m =
 -- ---- next and match
 
 -- where nothing was sent, next and match are 0
-pub none-of-box : (i : ℕ) → 1 ≤ i → i ≤ boxes → of-box none-sent i ≡ 0
-none-of-box = at-box (λ i. of-box none-sent i ≡ 0) refl refl refl refl refl refl refl
+pub none-of-box : (i : ℕ) → 1 ≤ i → i ≤ boxes → of-box zeros i ≡ 0
+none-of-box = at-box (λ i. of-box zeros i ≡ 0) refl refl refl refl refl refl refl
 
 -- next and match stay good where the log grows
-pub is-sent-grows : (sends : Bool) (last more next matched : ℕ) → last ≤ more → is-sent sends last next matched ≡ true
-    → is-sent sends more next matched ≡ true
-unfolding is-sent
-is-sent-grows true last more next matched l h =
+pub progress-grows : (sends : Bool) (last more next matched : ℕ) → last ≤ more → is-progress sends last next matched ≡ true
+    → is-progress sends more next matched ≡ true
+unfolding is-progress
+progress-grows true last more next matched l h =
     let f = sent-facts last next matched h in
     rw (lt-ltb _ _ (f .0), le-leb next (more + 1) (omega arith))
-is-sent-grows false last more next matched l h = h
+progress-grows false last more next matched l h = h
 
 -- next and match of a box that begins to lead are good
-pub is-sent-new : (sends : Bool) (last : ℕ) → is-sent sends last (cond sends (last + 1) 0) 0 ≡ true
-unfolding is-sent
-is-sent-new true last = rw (lt-ltb 0 (last + 1) (omega arith), le-leb (last + 1) (last + 1) (omega arith))
-is-sent-new false last = refl
+pub progress-new : (sends : Bool) (last : ℕ) → is-progress sends last (cond sends (last + 1) 0) 0 ≡ true
+unfolding is-progress
+progress-new true last = rw (lt-ltb 0 (last + 1) (omega arith), le-leb (last + 1) (last + 1) (omega arith))
+progress-new false last = refl
 
 -- ---- a step's record
 
 -- A box that stands is good. (The term's limit and the role before are the event's business.)
 pub good-standing : (s : State) → Good s → Good (standing s)
-unfolding standing is-vote is-role are-votes is-sent sends-to
+unfolding standing is-vote is-role are-votes is-progress sends-to
 good-standing s g =
     let m = member-facts (s .me) (s .members) (g .membership) in
     record {
@@ -135,11 +139,11 @@ good-leading s g r =
       commit = g .commit;
       role = rw (eq-eqb _ _ (v .0), le-leb _ _ (v .1));
       votes = refl;
-      sent = at-box (λ i. is-sent-to (leading s) i ≡ true) (new 1) (new 2) (new 3) (new 4) (new 5) (new 6) (new 7);
+      sent = at-box (λ i. has-progress (leading s) i ≡ true) (new 1) (new 2) (new 3) (new 4) (new 5) (new 6) (new 7);
     }
   where
-    new : (i : ℕ) → is-sent (is-other (s .me) (s .members) i) (last-index s) (next-after s i) 0 ≡ true
-    new i = is-sent-new (is-other (s .me) (s .members) i) (last-index s)
+    new : (i : ℕ) → is-progress (is-other (s .me) (s .members) i) (last-index s) (next-after s i) 0 ≡ true
+    new i = progress-new (is-other (s .me) (s .members) i) (last-index s)
 
 -- A record with its commit settled is good.
 pub good-settle : (s : State) → Good s → Good (settle s)
@@ -168,7 +172,7 @@ good-ordered s o g r l =
       commit = rw length-append (omega arith);
       role = g .role;
       votes = g .votes;
-      sent = λ i l h. is-sent-grows (sends-to s i) (last-index s) _ _ _ (rw length-append (omega arith)) (g .sent i l h);
+      sent = λ i l h. progress-grows (sends-to s i) (last-index s) _ _ _ (rw length-append (omega arith)) (g .sent i l h);
     }
 
 -- ---- the events, case by case

@@ -1,6 +1,6 @@
 // A look into a journal: the first line asks for a box, the rest is its journal. It reads, has the lines replayed by the library, and prints.
 use libc::STDOUT_FILENO;
-use node::Node;
+use record::Node;
 ghost use Prim.Native.Nat.{_≤_};
 ghost use mathlib.Core.Path.{_≡_};
 ghost use lib.ListN.{length};

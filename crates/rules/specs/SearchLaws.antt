@@ -3,10 +3,9 @@ use Prim.Native.Nat.{ℕ, zero, suc, _+_, _-_, _≤_, _<_}
 use native.Mathlib.Numerals.{add-one}
 use native.Mathlib.Nat.{zero-add, sub-zero}
 use native.Mathlib.Omega.{arith}
-use mathlib.Core.Path.{_≡_, refl, sym, ap, _∙_}
-use mathlib.Core.List.{List, [], _∷_, _++_, map, map-append}
-use lib.Dec.{eqb}
-use lib.ListN.{length, getD, drop, set, length-map}
+use mathlib.Core.Path.{_≡_, refl, ap, _∙_}
+use mathlib.Core.List.{List, [], _∷_, map, map-append}
+use lib.ListN.{length, getD, set, length-map}
 use borrow.Author.Tests.{eq-eqb, ne-eqb}
 use Rattle.digits.specs.Room.{over}
 use Rattle.digits.specs.RoomLaws.{length-over, over-nothing, over-over}
@@ -16,7 +15,7 @@ use Rattle.frames.specs.Laws.{length-listed, listed-next, listed-end}
 use Rattle.frames.specs.WritingLaws.{listed-suc, stored-one}
 use Rattle.raft.specs.Lent.{entries-of}
 use Rattle.raft.specs.LentLaws.{drop-entries}
-use Rattle.raft.specs.Receive.{agreed, stop}
+use Rattle.raft.specs.Append.{agreed, stop}
 
 -- ---- the search
 

@@ -4,7 +4,8 @@ ghost use mathlib.Core.Bool.{cond, _&&_};
 ghost use lib.Dec.{eqb, ltb};
 ghost use Prim.Native.Nat.{max, min, _≤_};
 ghost use Rattle.frames.specs.Limits.{log-limit};
-ghost use Rattle.raft.specs.Receive.{commit-after, match-after, next-heard};
+ghost use Rattle.raft.specs.Append.{commit-after};
+ghost use Rattle.raft.specs.AppendAnswer.{match-after, next-heard};
 
 // "the larger of itself and the smaller of (leader's commit, previous index + count)"
 pub fn commit_after(own: u16, leaders: u16, end: u16) -> u16
@@ -13,6 +14,7 @@ pub fn commit_after(own: u16, leaders: u16, end: u16) -> u16
     larger(own, smaller(leaders, end))
 }
 
+// The smaller of two indexes.
 fn smaller(a: u16, b: u16) -> u16
     ensures { λ r. ⌜ r ≡ min a b ⌝ }
 {
@@ -22,6 +24,7 @@ fn smaller(a: u16, b: u16) -> u16
     b
 }
 
+// The larger of two.
 fn larger(a: u16, b: u16) -> u16
     ensures { λ r. ⌜ r ≡ max a b ⌝ }
 {

@@ -11,7 +11,7 @@ ghost use Rattle.frames.specs.Limits.{log-limit};
 ghost use Rattle.frames.specs.Fields.{listed};
 ghost use Rattle.raft.specs.Record.{term-at};
 ghost use Rattle.raft.specs.Lent.{entries-of, terms-of, orders-of};
-ghost use Rattle.raft.specs.Receive.{lacks, stop};
+ghost use Rattle.raft.specs.Append.{lacks, stop};
 
 // The term of the entry at an index, 0 at the start.
 pub fn term_at(terms: &[u32], index: u16) -> u32

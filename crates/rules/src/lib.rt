@@ -1,4 +1,4 @@
-// The rules of 01 that need a few numbers or the lent log alone, each one small function: the box's crate puts them together.
+// The rules of 01 that need a few numbers or the lent log alone, each one small function: the crates above put them together.
 mod answers;
 mod entries;
 mod mask;
@@ -21,7 +21,7 @@ pub use mask::is_other;
 pub use record::are_votes;
 pub use record::in_order;
 pub use record::is_membership;
+pub use record::is_progress;
 pub use record::is_role;
-pub use record::is_sent;
 pub use record::is_vote;
 pub use votes::is_granted;

@@ -4,6 +4,7 @@ ghost use Prim.Native.Nat.{_≤_};
 ghost use Rattle.raft.specs.Majority.{bit, holds, majority};
 ghost use Rattle.raft.specs.Record.{is-other};
 
+// "box i has bit i-1"
 pub fn bit(i: u8) -> u8
     requires { ⌜ 1 ≤ i ⌝ }
     requires { ⌜ i ≤ 7 ⌝ }
@@ -12,6 +13,7 @@ pub fn bit(i: u8) -> u8
     1 << (i - 1)
 }
 
+// The mask holds box i.
 pub fn holds(mask: u8, i: u8) -> bool
     requires { ⌜ 1 ≤ i ⌝ }
     requires { ⌜ i ≤ 7 ⌝ }

@@ -1,7 +1,7 @@
 // "Vote request": what a vote hangs on.
 ghost use mathlib.Core.Path.{_≡_};
 ghost use Rattle.raft.specs.Newer.{as-new};
-ghost use Rattle.raft.specs.Receive.{is-granted};
+ghost use Rattle.raft.specs.VoteRequest.{is-granted};
 
 // "at least as new: higher last term, or the same and last index no smaller": the asker's last index and term against the box's own.
 fn is_as_new(index: u16, term: u32, own_index: u16, own_term: u32) -> bool

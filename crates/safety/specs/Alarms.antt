@@ -1,21 +1,31 @@
 -- Why an alarm sounds: what a refusal with number 6, 7 or 8 says of the box and of the message that came. Assumes nothing.
-use Prim.Native.Nat.{ℕ, _<_}
+use Prim.Native.Nat.{ℕ, _≤_, _<_}
 use native.Mathlib.Omega.{arith}
 use mathlib.Core.Path.{_≡_, refl}
 use mathlib.Core.Bool.{true, false, _&&_}
 use mathlib.Core.List.{List}
 use lib.Dec.{eqb, ltb, leb}
-use borrow.Author.Tests.{eqb-true, eqb-false, ltb-true, ltb-false, leb-true}
+use borrow.Author.Tests.{eqb-true, eqb-false, ltb-true, ltb-false}
 use Rattle.digits.specs.Tests.{and-left, and-right}
 use Rattle.frames.specs.declared.Entry.{Entry}
 use Rattle.frames.specs.Message.{Message, vote-request, vote-answer, append, append-answer}
 use Rattle.raft.specs.Majority.{bit, majority}
 use Rattle.raft.specs.Record.{State, leader, last-index}
-use Rattle.raft.specs.Step.{Outcome, done, refuse, won, timeout, order, prompt}
-use Rattle.raft.specs.Receive.{taken, on-vote-request, counted, counts, on-vote-answer, lacks, cuts-committed, join, on-append, answered, hear, on-append-answer, deliver}
+use Rattle.raft.specs.Outcome.{Outcome, done, refuse}
+use Rattle.raft.specs.Winning.{won}
+use Rattle.raft.specs.Timeout.{timeout}
+use Rattle.raft.specs.Order.{order}
+use Rattle.raft.specs.Prompt.{prompt}
+use Rattle.raft.specs.AnyMessage.{taken}
+use Rattle.raft.specs.VoteRequest.{on-vote-request}
+use Rattle.raft.specs.VoteAnswer.{counted, counts, on-vote-answer}
+use Rattle.raft.specs.Append.{lacks, cuts-committed, on-append}
+use Rattle.raft.specs.AppendAnswer.{answered, hear, on-append-answer}
+use Rattle.raft.specs.Receive.{term-of, stale, current, deliver}
+use Rattle.raft.specs.Event.{Event, times-out, takes-order, is-prompted, receives, step}
 use Rattle.raft.specs.CommitLaws.{by-test}
 use Rattle.raft.specs.ReceiveLaws.{taken-none, Looks, Arrives}
-use Rattle.safety.specs.Park.{Event, times-out, takes-order, is-prompted, receives, outcome}
+use Rattle.safety.specs.Park.{Comes}
 use Rattle.safety.specs.Sent.{Sent, bytes-come}
 
 -- A refusal's number, and why it is given where it is an alarm.
@@ -49,89 +59,86 @@ refuses-with Q m q n e = let same : m ≡ n = cc in rw (← same) q
 -- ---- the messages
 
 module _ (sent : List (List ℕ)) (s : State) where
-  -- A vote request is never refused,
-  vote-request-alarms : (from term index prior : ℕ) → Refuses (Alarm sent s) (on-vote-request s from term index prior)
-  unfolding on-vote-request
-  vote-request-alarms from term index prior = refuses-done (Alarm sent s) _ _
+  -- what is shown of an outcome: why, where it is an alarm
+  abbrev Why : Outcome → Type 0
+  Why = Refuses (Alarm sent s)
+
+  -- A message of a lower term is never refused,
+  stale-alarms : (m : Message) → Why (stale m s)
+  unfolding stale
+  stale-alarms (vote-request from to term index prior) = refuses-done _ _ _
+  stale-alarms (vote-answer from to term reply) = refuses-done _ _ _
+  stale-alarms (append from to term index prior commit es) = refuses-done _ _ _
+  stale-alarms (append-answer from to term reply index) = refuses-done _ _ _
 
   -- nor is a vote answer.
-  vote-answer-alarms : (from term reply : ℕ) → Refuses (Alarm sent s) (on-vote-answer s from term reply)
+  vote-answer-alarms : (t : State) (from reply : ℕ) → Why (on-vote-answer t from reply)
   unfolding on-vote-answer counted won
-  vote-answer-alarms from term reply =
-      by-test (Refuses (Alarm sent s)) (counts s term reply) _ _
-      (λ c. by-test (Refuses (Alarm sent s)) (majority _ _) _ _ (λ m. refuses-done _ _ _) (λ m. refuses-done _ _ _))
+  vote-answer-alarms t from reply =
+      by-test Why (counts t reply) _ _ (λ c. by-test Why (majority _ _) _ _ (λ m. refuses-done _ _ _) (λ m. refuses-done _ _ _))
       (λ c. refuses-done _ _ _)
 
   -- An append is refused with 6 or 7,
   append-alarms : (from to term index prior commit : ℕ) (es : List Entry) → Arrives s (append from to term index prior commit es)
-      → Sent sent (append from to term index prior commit es) → Refuses (Alarm sent s) (on-append s from term index prior commit es)
-  unfolding on-append join
-  append-alarms from to term index prior commit es a v =
-      by-test Q (ltb term (s .term)) _ _ (λ l. refuses-done _ _ _)
-      (λ l. by-test Q (eqb (taken term s .role) leader) _ _
-      (λ r. let o = taken-none term s 1 (ltb-false _ _ l) (eqb-true _ _ r) in
+      → Sent sent (append from to term index prior commit es) → s .term ≤ term → Why (on-append (taken term s) from index prior commit es)
+  unfolding on-append
+  append-alarms from to term index prior commit es a v l =
+      by-test Why (eqb (taken term s .role) leader) _ _
+      (λ r. let o = taken-none term s 1 l (eqb-true _ _ r) in
       refuses-with (Alarm sent s) 6 (two-lead refl from to term index prior commit es a v (o .1) (o .2)))
-      (λ r. by-test Q (lacks (taken term s .log) index prior) _ _ (λ k. refuses-done _ _ _)
-      (λ k. by-test Q (cuts-committed (taken term s) index es) _ _
+      (λ r. by-test Why (lacks (taken term s .log) index prior) _ _ (λ k. refuses-done _ _ _)
+      (λ k. by-test Why (cuts-committed (taken term s) index es) _ _
       (λ c. refuses-with (Alarm sent s) 7
-      (cuts refl from to term index prior commit es a v (record { current = ltb-false _ _ l; unled = eqb-false _ _ r }) k c))
-      (λ c. refuses-done _ _ _))))
-    where
-      Q : Outcome → Type 0
-      Q = Refuses (Alarm sent s)
+      (cuts refl from to term index prior commit es a v (record { current = l; unled = eqb-false _ _ r }) k c))
+      (λ c. refuses-done _ _ _)))
 
   -- and an append answer with 8.
   append-answer-alarms : (from to term reply index : ℕ) → Arrives s (append-answer from to term reply index)
-      → Sent sent (append-answer from to term reply index) → Refuses (Alarm sent s) (on-append-answer s from term reply index)
+      → Sent sent (append-answer from to term reply index) → s .term ≤ term → Why (on-append-answer (taken term s) from reply index)
   unfolding on-append-answer hear answered
-  append-answer-alarms from to term reply index a v =
-      by-test Q (leb (s .term) term && eqb (taken term s .role) leader) _ _ at-leader (λ e. refuses-done _ _ _)
+  append-answer-alarms from to term reply index a v l =
+      by-test Why (eqb (taken term s .role) leader) _ _ at-leader (λ e. refuses-done _ _ _)
     where
-      Q : Outcome → Type 0
-      Q = Refuses (Alarm sent s)
-
-      at-leader : (leb (s .term) term && eqb (taken term s .role) leader) ≡ true → Q (hear (taken term s) from reply index)
+      at-leader : eqb (taken term s .role) leader ≡ true → Why (hear (taken term s) from reply index)
       at-leader e =
-          let role = eqb-true (taken term s .role) leader (and-right (leb (s .term) term) _ e) in
-          let o = taken-none term s 1 (leb-true _ _ (and-left (leb (s .term) term) _ e)) role in
-          rw (o .0) (by-test Q (eqb reply 1 && ltb (last-index s) index) _ _
+          let o = taken-none term s 1 l (eqb-true (taken term s .role) leader e) in
+          rw (o .0) (by-test Why (eqb reply 1 && ltb (last-index s) index) _ _
           (λ h. let said = eqb-true reply 1 (and-left (eqb reply 1) _ h) in
           refuses-with (Alarm sent s) 8
           (past refl from to term index (rw said at a) (rw said at v) (o .1) (o .2) (ltb-true _ _ (and-right (eqb reply 1) _ h))))
           (λ h. refuses-done _ _ _))
 
+  -- So each message of no lower term, where it was sent,
+  current-alarms : (m : Message) → Arrives s m → Sent sent m → s .term ≤ term-of m → Why (current m (taken (term-of m) s))
+  unfolding current term-of on-vote-request
+  current-alarms (vote-request from to term index prior) a v l = refuses-done _ _ _
+  current-alarms (vote-answer from to term reply) a v l = vote-answer-alarms (taken term s) from reply
+  current-alarms (append from to term index prior commit es) a v l = append-alarms from to term index prior commit es a v l
+  current-alarms (append-answer from to term reply index) a v l = append-answer-alarms from to term reply index a v l
+
+  -- and so any that arrives.
+  deliver-alarms : (m : Message) → Arrives s m → Sent sent m → Why (deliver m s)
+  unfolding deliver
+  deliver-alarms m a v =
+      by-test Why (ltb (term-of m) (s .term)) _ _ (λ l. stale-alarms m) (λ l. current-alarms m a v (ltb-false _ _ l))
+
   -- ---- any event
 
-  -- Each message that arrives, where it was sent,
-  deliver-alarms : (m : Message) → Arrives s m → Sent sent m → Refuses (Alarm sent s) (deliver m s)
-  unfolding deliver
-  deliver-alarms (vote-request from to term index prior) a v = vote-request-alarms from term index prior
-  deliver-alarms (vote-answer from to term reply) a v = vote-answer-alarms from term reply
-  deliver-alarms (append from to term index prior commit es) a v = append-alarms from to term index prior commit es a v
-  deliver-alarms (append-answer from to term reply index) a v = append-answer-alarms from to term reply index a v
-
   -- a number that is no alarm's
-  no-alarm : (n : ℕ) → (n ≡ 6 → ⊥) × (n ≡ 7 → ⊥) × (n ≡ 8 → ⊥) → Refuses (Alarm sent s) (refuse n)
+  no-alarm : (n : ℕ) → (n ≡ 6 → ⊥) × (n ≡ 7 → ⊥) × (n ≡ 8 → ⊥) → Why (refuse n)
   no-alarm n q = refuses-with (Alarm sent s) n (quiet (q .0) (q .1) (q .2))
 
   -- **Why an alarm sounds,** at any event.
-  pub event-alarms : (e : Event sent) → Refuses (Alarm sent s) (outcome e s)
-  unfolding outcome timeout order prompt won
-  event-alarms times-out =
-      by-test Q (eqb (s .role) leader) _ _ (λ r. refuses-done _ _ _)
-      (λ r. by-test Q (eqb (s .term) _) _ _ (λ t. no-alarm 9 (omega arith))
-      (λ t. by-test Q (majority (s .members) (bit (s .me))) _ _ (λ m. refuses-done _ _ _) (λ m. refuses-done _ _ _)))
-    where
-      Q : Outcome → Type 0
-      Q = Refuses (Alarm sent s)
-  event-alarms (takes-order o l) =
-      by-test Q (eqb (s .role) leader) _ _
-      (λ r. by-test Q (leb _ (last-index s)) _ _ (λ f. no-alarm 4 (omega arith)) (λ f. refuses-done _ _ _)) (λ r. no-alarm 3 (omega arith))
-    where
-      Q : Outcome → Type 0
-      Q = Refuses (Alarm sent s)
-  event-alarms is-prompted =
-      by-test (Refuses (Alarm sent s)) (eqb (s .role) leader) _ _ (λ r. refuses-done _ _ _) (λ r. no-alarm 3 (omega arith))
-  event-alarms (receives bytes there) =
-      bytes-come (Refuses (Alarm sent s)) s bytes (λ m a r. deliver-alarms m a (record { bytes = bytes; there = there; read = r }))
+  pub event-alarms : (e : Event) → Comes sent e → Refuses (Alarm sent s) (step e s)
+  unfolding step timeout order prompt won
+  event-alarms times-out c =
+      by-test Why (eqb (s .role) leader) _ _ (λ r. refuses-done _ _ _)
+      (λ r. by-test Why (eqb (s .term) _) _ _ (λ t. no-alarm 9 (omega arith))
+      (λ t. by-test Why (majority (s .members) (bit (s .me))) _ _ (λ m. refuses-done _ _ _) (λ m. refuses-done _ _ _)))
+  event-alarms (takes-order o) c =
+      by-test Why (eqb (s .role) leader) _ _
+      (λ r. by-test Why (leb _ (last-index s)) _ _ (λ f. no-alarm 4 (omega arith)) (λ f. refuses-done _ _ _)) (λ r. no-alarm 3 (omega arith))
+  event-alarms is-prompted c = by-test Why (eqb (s .role) leader) _ _ (λ r. refuses-done _ _ _) (λ r. no-alarm 3 (omega arith))
+  event-alarms (receives bytes) there =
+      bytes-come Why s bytes (λ m a r. deliver-alarms m a (record { bytes = bytes; there = there; read = r }))
       (no-alarm 1 (omega arith)) (no-alarm 2 (omega arith))

@@ -6,13 +6,14 @@ use mathlib.Core.List.{List, [], List·Memᴰ·not-nil}
 use Rattle.frames.specs.declared.Entry.{Entry}
 use Rattle.frames.specs.Message.{Message}
 use Rattle.raft.specs.Record.{State, leader, fresh, handed-out, is-membership}
-use Rattle.raft.specs.Step.{done}
-use Rattle.journal.specs.Opening.{stored, restarted}
+use Rattle.raft.specs.Outcome.{done}
+use Rattle.raft.specs.Event.{Event, step}
+use Rattle.journal.specs.Opening.{restarted}
 use Rattle.history.specs.Put.{put-same, put-other}
 use Rattle.history.specs.Begins.{begins-self}
 use Rattle.history.specs.History.{History}
 use Rattle.history.specs.Steps.{fresh-park}
-use Rattle.safety.specs.Park.{Park, start, Event, outcome, frames, after, Move, steps, restarts, stays, moves, run-both, Reached}
+use Rattle.safety.specs.Park.{Park, start, Comes, frames, after, Move, steps, restarts, stays, moves, run-both, Reached}
 use Rattle.safety.specs.Proper.{event-reads, reached-proper}
 use Rattle.safety.specs.Carried.{Carried}
 use Rattle.safety.specs.CarriedRun.{start-carried, known-box, move-carried}
@@ -40,7 +41,7 @@ leader-in-book {p = p} r i l = begins p r stays refl i (p .box i .term) (record 
 
 -- What has come back hands out nothing.
 pub restarted-hands : (s : State) → handed-out (restarted s) ≡ []
-unfolding handed-out restarted stored
+unfolding handed-out restarted
 restarted-hands s = refl
 
 -- At the start nothing is handed out.
@@ -58,10 +59,11 @@ start-told mask =
 
 module _ (mask : ℕ) {p : Park} (r : Reached mask p) (x : Park-told mask r) (i : ℕ) (m : is-membership i mask ≡ true) where
   -- A step keeps it so,
-  step-told : (e : Event (p .sent)) (t : State) (ms : List Message) (o : outcome e (p .box i) ≡ done t ms) → Park-told mask (moves r (steps i m e t ms o))
+  step-told : (e : Event) (c : Comes (p .sent) e) (t : State) (ms : List Message) (o : step e (p .box i) ≡ done t ms)
+      → Park-told mask (moves r (steps i m e c t ms o))
   unfolding after
-  step-told e t ms o =
-      let v : Move mask p (after p i t ms) = steps i m e t ms o in
+  step-told e c t ms o =
+      let v : Move mask p (after p i t ms) = steps i m e c t ms o in
       let y = move-carried mask r (x .carried) v in
       let own = reached-proper mask p r i in
       record {
@@ -70,8 +72,8 @@ module _ (mask : ℕ) {p : Park} (r : Reached mask p) (x : Park-told mask r) (i 
         booked =
             step-booked (in-book-on v) mask i (put-same (p .box) i t) (put-other (p .box) i t) (y .later) (x .carried .tells) (x .booked)
             (λ a b. in-book-less (parks mask)) (known-box mask r (x .carried) i m) (own .ours) (rw (put-same (p .box) i t) at (y .carried .kept i))
-            (rw (put-same (p .box) i t) at (leader-in-book (moves r v) i)) (event-reads (p .sent) (p .box i) (own .whole m) (own .fits) e t ms o)
-            (event-ending (p .sent) (p .box i) e t ms o);
+            (rw (put-same (p .box) i t) at (leader-in-book (moves r v) i)) (event-reads (p .sent) (p .box i) (own .whole m) (own .fits) e c t ms o)
+            (event-ending (p .sent) (p .box i) e c t ms o);
       }
 
   -- and so does a restart: the box hands out nothing.
@@ -92,7 +94,7 @@ module _ (mask : ℕ) {p : Park} (r : Reached mask p) (x : Park-told mask r) (i 
 -- So it is along every run,
 park-told : (mask : ℕ) {p : Park} (r : Reached mask p) → Park-told mask r
 park-told mask stays = start-told mask
-park-told mask (moves r (steps i m e t ms o)) = step-told mask r (park-told mask r) i m e t ms o
+park-told mask (moves r (steps i m e c t ms o)) = step-told mask r (park-told mask r) i m e c t ms o
 park-told mask (moves r (restarts i m)) = restart-told mask r (park-told mask r) i m
 
 -- **What any box hands out is a beginning of the book.**

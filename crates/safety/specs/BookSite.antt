@@ -9,15 +9,17 @@ use Rattle.frames.specs.declared.Entry.{Entry}
 use Rattle.frames.specs.Message.{Message}
 use Rattle.raft.specs.Record.{State, leader, fresh, handed-out, is-membership}
 use Rattle.raft.specs.Journal.{journaled}
-use Rattle.raft.specs.Step.{done}
+use Rattle.raft.specs.Outcome.{done}
+use Rattle.raft.specs.Event.{Event, step}
 use Rattle.journal.specs.Opening.{restarted, opened, opening}
 use Rattle.journal.specs.LifeLaws.{Life, life-opens}
+use Rattle.history.specs.InForce.{fixed}
 use Rattle.history.specs.Put.{put-same, put-other}
 use Rattle.history.specs.Begins.{begins-self}
 use Rattle.history.specs.History.{History}
 use Rattle.history.specs.Told.{Tells}
 use Rattle.history.specs.Steps.{fresh-park}
-use Rattle.safety.specs.Park.{Park, start, Event, outcome, frames, Run, run-both, Reached}
+use Rattle.safety.specs.Park.{Park, start, Comes, frames, Run, run-both, Reached}
 use Rattle.safety.specs.Sent.{Sent}
 use Rattle.safety.specs.Proper.{event-reads, Proper, reached-proper}
 use Rattle.safety.specs.Disks.{Seat, Site, built, written, seated, Happens, steps, fails, reopens, trims, Goes, stays, goes, goes-both}
@@ -70,7 +72,7 @@ built-told mask =
 
 module _ (mask : ℕ) {a : Site} (g : Goes mask (built mask) a) (x : Site-told mask g) where
   -- The frames that were sent at the site tell of the history.
-  site-tells : (m : Message) → Sent (a .sent) m → Tells mask (x .history) m
+  site-tells : (m : Message) → Sent (a .sent) m → Tells (fixed mask) (x .history) m
   site-tells m s = x .carried .tells m (record { bytes = s .bytes; there = x .mirrors .known (s .bytes) (s .there); read = s .read })
 
   module _ {b : Site} (v : Happens mask a b) where
@@ -118,16 +120,16 @@ module _ (mask : ℕ) {a : Site} (g : Goes mask (built mask) a) (x : Site-told m
     known-seat = rw (x .mirrors .same i) (known-box mask (x .reached) (x .carried) i m)
 
     -- A step.
-    step-told : (e : Event (a .sent)) (t : State) (ms : List Message) (o : outcome e (a .seat i .now) ≡ done t ms)
-        → Site-told mask (goes g (steps i m e t ms o))
+    step-told : (e : Event) (c : Comes (a .sent) e) (t : State) (ms : List Message) (o : step e (a .seat i .now) ≡ done t ms)
+        → Site-told mask (goes g (steps i m e c t ms o))
     unfolding seated
-    step-told e t ms o =
+    step-told e c t ms o =
         told-on v
         (step-booked (in-book-on v) mask i (ap (λ x. x .now) (put-same (a .seat) i seat)) (λ j n. ap (λ x. x .now) (put-other (a .seat) i seat j n)) (on v .later)
         site-tells (x .booked) (λ c d. in-book-less (sites mask)) known-seat (rw (x .mirrors .same i) (own .ours)) kept
         (rw (put-same (a .seat) i seat) at (leader-in-book (goes g v) i))
-        (event-reads (a .sent) (a .seat i .now) (known-seat .whole) (rw (x .mirrors .same i) (own .fits)) e t ms o)
-        (event-ending (a .sent) (a .seat i .now) e t ms o))
+        (event-reads (a .sent) (a .seat i .now) (known-seat .whole) (rw (x .mirrors .same i) (own .fits)) e c t ms o)
+        (event-ending (a .sent) (a .seat i .now) e c t ms o))
       where
         seat : Seat
         seat =
@@ -138,7 +140,7 @@ module _ (mask : ℕ) {a : Site} (g : Goes mask (built mask) a) (x : Site-told m
             }
 
         v : Happens mask a (seated a i seat ms)
-        v = steps i m e t ms o
+        v = steps i m e c t ms o
 
         own : Proper mask i (x .park .box i)
         own = reached-proper mask (x .park) (x .reached) i
@@ -151,12 +153,12 @@ module _ (mask : ℕ) {a : Site} (g : Goes mask (built mask) a) (x : Site-told m
 -- So it is along every run,
 site-told : (mask : ℕ) {a : Site} (g : Goes mask (built mask) a) → Site-told mask g
 site-told mask stays = built-told mask
-site-told mask (goes g (steps i m e t ms o)) = step-told mask g (site-told mask g) i m e t ms o
-site-told mask (goes g (fails i m e t ms o k u n h)) = opened-told mask g (site-told mask g) i m u n _ (fails i m e t ms o k u n h) h
+site-told mask (goes g (steps i m e c t ms o)) = step-told mask g (site-told mask g) i m e c t ms o
+site-told mask (goes g (fails i m e c t ms o k u n h)) = opened-told mask g (site-told mask g) i m u n _ (fails i m e c t ms o k u n h) h
 site-told mask (goes g (reopens i m u n h)) = opened-told mask g (site-told mask g) i m u n _ (reopens i m u n h) h
-site-told mask (goes g (trims i m)) =
+site-told mask (goes g (trims i m k)) =
     let x = site-told mask g in
-    seat-told mask g x i _ (trims i m) (in-book-on (trims i m) _ (x .booked .boxes i))
+    seat-told mask g x i _ (trims i m k) (in-book-on (trims i m k) _ (x .booked .boxes i))
 
 -- **What any box hands out is a beginning of the book.**
 pub site-handed-in-book : (mask : ℕ) (a : Site) (g : Goes mask (built mask) a) (i : ℕ) → InBook (sites mask) g (handed-out (a .seat i .now))

@@ -10,6 +10,7 @@ use Rattle.frames.specs.Message.{Message, append, text}
 use Rattle.frames.specs.Reading.{frame, reading}
 use Rattle.raft.specs.Record.{State, leader, handed-out}
 use Rattle.raft.specs.SendLaws.{All}
+use Rattle.history.specs.InForce.{fixed}
 use Rattle.history.specs.Begins.{Begins, begins-trans, begins-nothing}
 use Rattle.history.specs.History.{History}
 use Rattle.history.specs.Grow.{first-grows}
@@ -50,7 +51,7 @@ module _ {B C : List Entry → Type 0} (more : (log : List Entry) → B log → 
 
   -- What the appends carry that were sent before,
   old-booked : (mask : ℕ) {h later : History} {sent : List (List ℕ)} → Later h later
-      → ((m : Message) → Sent sent m → Tells mask h m) → Carrying B h sent → Carrying C later sent
+      → ((m : Message) → Sent sent m → Tells (fixed mask) h m) → Carrying B h sent → Carrying C later sent
   unfolding Tells
   old-booked mask l told had from to term index prior commit es s =
       let x = told _ s in
@@ -59,7 +60,7 @@ module _ {B C : List Entry → Type 0} (more : (log : List Entry) → B log → 
 
   -- and those of the box that has moved: a leader's append carries what it hands out.
   sends-booked : (mask : ℕ) {h later : History} {t : State} {sent : List (List ℕ)} (ms : List Message) → Later h later
-      → ((m : Message) → Sent sent m → Tells mask h m) → Carrying B h sent → Kept later t
+      → ((m : Message) → Sent sent m → Tells (fixed mask) h m) → Carrying B h sent → Kept later t
       → (t .role ≡ leader → C (handed-out t)) → All (λ m. reading (text m) ≡ frame m) ms → All (IfAppend t) ms
       → Carrying C later (frames ms ++ sent)
   unfolding IfAppend handed-out
@@ -68,12 +69,12 @@ module _ {B C : List Entry → Type 0} (more : (log : List Entry) → B log → 
     where
       go : FromLeader t term commit ⊎ Sent sent (append from to term index prior commit es)
           → C (take commit (later .leaders .log term))
-      go (inl o) = rw (o .now, o .known, k .leads (o .leads) .log) (own (o .leads))
+      go (inl o) = rw (o .now, o .known, k .leads (o .leads) .log, k .log) (own (o .leads))
       go (inr o) = old-booked mask l told had from to term index prior commit es o
 
   -- A box has moved, and the others have not.
   module _ (mask : ℕ) {h later : History} {box next : ℕ → State} {sent : List (List ℕ)} (i : ℕ) {t : State} (here : next i ≡ t)
-      (others : (j : ℕ) → (j ≡ i → ⊥) → next j ≡ box j) (l : Later h later) (told : (m : Message) → Sent sent m → Tells mask h m) (had : Booked B h box sent) where
+      (others : (j : ℕ) → (j ≡ i → ⊥) → next j ≡ box j) (l : Later h later) (told : (m : Message) → Sent sent m → Tells (fixed mask) h m) (had : Booked B h box sent) where
     boxes-booked : C (handed-out t) → (j : ℕ) → C (handed-out (next j))
     boxes-booked new j = go (ℕ-discrete j i)
       where

@@ -1,6 +1,6 @@
 -- A history is carried along every run: from fresh boxes on, each move keeps the facts, the boxes and what the frames tell, and history only
 -- grows. Assumes nothing.
-use Prim.Native.Nat.{ℕ, _<_}
+use Prim.Native.Nat.{ℕ}
 use native.Mathlib.Omega.{arith}
 use mathlib.Core.Path.{_≡_, refl, sym, _∙_}
 use mathlib.Core.Bool.{true}
@@ -9,8 +9,8 @@ use mathlib.Core.Logic.{_⊎_, inl, inr}
 use Rattle.frames.specs.Message.{Message, text}
 use Rattle.frames.specs.Reading.{frame, reading}
 use Rattle.raft.specs.Record.{State, fresh, is-membership}
-use Rattle.raft.specs.RecordLaws.{member-facts}
 use Rattle.raft.specs.SendLaws.{All}
+use Rattle.history.specs.InForce.{fixed}
 use Rattle.history.specs.History.{History}
 use Rattle.history.specs.Put.{put-all}
 use Rattle.history.specs.Handed.{hands-nothing}
@@ -31,12 +31,12 @@ pub start-carried : (mask : ℕ) → Carried mask fresh-park (start mask)
 unfolding start fresh fresh-park
 start-carried mask =
     record {
-      facts = fresh-facts mask;
+      facts = fresh-facts (fixed mask);
       kept = λ j. record {
         term = refl;
         log = refl;
         vote = λ d v. absurd v;
-        hands = hands-nothing mask fresh-park 0 [];
+        hands = hands-nothing (fixed mask) fresh-park 0 [];
         stands = λ r. absurd (omega arith);
         leads = λ r. absurd (omega arith);
       };
@@ -64,9 +64,6 @@ module _ (mask : ℕ) {h : History} {p : Park} (r : Reached mask p) (c : Carried
       let own = reached-proper mask p r i in
       go (rw (own .ours, own .mine) at n)
     where
-      small : mask < 128
-      small = member-facts i mask m .mask
-
       go : Next mask i h t ms → Onward mask h (after p i t ms)
       go x =
           record {
@@ -75,26 +72,26 @@ module _ (mask : ℕ) {h : History} {p : Park} (r : Reached mask p) (c : Carried
             carried = record {
               facts = x .facts;
               kept = put-all (λ j s. Kept (x .history) s) (p .box) i t (x .kept) (λ j apart. other j apart);
-              tells = λ n s. told n (sent-cases (Tells mask (x .history)) ms (p .sent) reads (x .tells) n s);
+              tells = λ n s. told n (sent-cases (Tells (fixed mask) (x .history)) ms (p .sent) reads (x .tells) n s);
             };
           }
         where
           other : (j : ℕ) → (j ≡ i → ⊥) → Kept (x .history) (p .box j)
           other j apart =
               let its = reached-proper mask p r j in
-              kept-aside (p .box j) (rw (its .ours) small) (rw (its .ours) (c .facts)) (x .grown) (λ e. apart (sym (its .mine) ∙ e)) (c .kept j)
+              kept-aside (p .box j) (rw (its .ours) (c .facts)) (x .grown) (λ e. apart (sym (its .mine) ∙ e)) (c .kept j)
 
-          told : (n : Message) → Tells mask (x .history) n ⊎ Sent (p .sent) n → Tells mask (x .history) n
+          told : (n : Message) → Tells (fixed mask) (x .history) n ⊎ Sent (p .sent) n → Tells (fixed mask) (x .history) n
           told n (inl new) = new
-          told n (inr old) = tells-later small (c .facts) (x .grown .later) n (c .tells n old)
+          told n (inr old) = tells-later (c .facts) (x .grown .later) n (c .tells n old)
 
 -- **A history is carried over each move,**
 pub move-carried : (mask : ℕ) {h : History} {p q : Park} → Reached mask p → Carried mask h p → Move mask p q → Onward mask h q
 unfolding All
-move-carried mask {h = h} {p = p} r c (steps i m e t ms o) =
+move-carried mask {h = h} {p = p} r c (steps i m e y t ms o) =
     let own = reached-proper mask p r i in
-    after-carried mask r c i m t ms (event-reads (p .sent) (p .box i) (own .whole m) (own .fits) e t ms o)
-    (ending-next (known-box mask r c i m) (λ n s. rw (own .ours) (c .tells n s)) (event-ending (p .sent) (p .box i) e t ms o))
+    after-carried mask r c i m t ms (event-reads (p .sent) (p .box i) (own .whole m) (own .fits) e y t ms o)
+    (ending-next (known-box mask r c i m) (λ n s. rw (own .ours) (c .tells n s)) (event-ending (p .sent) (p .box i) e y t ms o))
 move-carried mask {p = p} r c (restarts i m) = after-carried mask r c i m _ [] tt (restart-next (known-box mask r c i m))
 
 -- **and so along every run.**

@@ -1,7 +1,7 @@
 -- Each ending of a move keeps the facts: what is known of a box before it is known behind it, in a history that has grown by its doing.
 -- Assumes nothing.
 use Prim.Native.Nat.{ℕ, _+_, _<_}
-use mathlib.Core.Path.{_≡_, refl, sym}
+use mathlib.Core.Path.{_≡_, refl}
 use mathlib.Core.Bool.{true, false}
 use mathlib.Core.List.{List, [], _∷_}
 use lib.ListN.{length}
@@ -13,15 +13,23 @@ use Rattle.raft.specs.Record.{State, candidate, leader, last-index}
 use Rattle.raft.specs.Commit.{settle}
 use Rattle.raft.specs.Sends.{append-to, appends}
 use Rattle.raft.specs.SendLaws.{All, appends-all}
-use Rattle.raft.specs.Step.{standing, leading, ordered}
-use Rattle.raft.specs.Receive.{taken, voting, vote-answer-to, adding, following, lacks, joining, append-answer-to, heard, sender, receiver}
-use Rattle.raft.specs.ReceiveLaws.{taken-keeps, taken-term, Grants, Counts, Looks, Hears, settled-heard, sent-by, term-of, good-heard, good-counted}
+use Rattle.raft.specs.Timeout.{standing}
+use Rattle.raft.specs.Winning.{leading}
+use Rattle.raft.specs.Order.{ordered}
+use Rattle.raft.specs.AnyMessage.{taken}
+use Rattle.raft.specs.VoteRequest.{voting, vote-answer-to}
+use Rattle.raft.specs.VoteAnswer.{adding}
+use Rattle.raft.specs.Append.{following, lacks, joining, append-answer-to}
+use Rattle.raft.specs.AppendAnswer.{heard}
+use Rattle.raft.specs.Receive.{sender, receiver, term-of}
+use Rattle.raft.specs.ReceiveLaws.{taken-keeps, taken-term, Grants, Counts, Looks, Hears, settled-heard, sent-by, good-heard, good-counted}
+use Rattle.history.specs.InForce.{fixed}
 use Rattle.history.specs.History.{History}
 use Rattle.history.specs.Told.{Tells, tells-later}
 use Rattle.safety.specs.Sent.{Sent}
 use Rattle.safety.specs.Endings.{Came, Ending, rests, stands, leads-alone, takes-up, prompts, takes, votes, votes-not, wins, counts, declines, wants, joins, hears, hears-again}
 use Rattle.safety.specs.Grown.{asks-grown, wins-grown, adds-grown}
-use Rattle.safety.specs.Next.{Known, Next, known-small, next-behind, next-same, vote-no-tells, append-no-tells, following-next, taken-next}
+use Rattle.safety.specs.Next.{Known, Next, next-behind, next-same, vote-no-tells, append-no-tells, following-next, taken-next}
 use Rattle.safety.specs.CarryStands.{standing-known, standing-next, election, leading-known}
 use Rattle.safety.specs.CarryVotes.{voting-next, adding-known}
 use Rattle.safety.specs.CarryLeads.{settle-known, append-sending, led-next, ordered-known, heard-known}
@@ -33,9 +41,9 @@ won-next : {h : History} {s : State} → Known h s → s .role ≡ candidate →
 unfolding leading
 won-next {h} {s} k r most =
     let e = election k r most in
-    next-behind (wins-grown (s .me) (known-small k) (e .facts) (e .later)) (led-next (leading-known k r e) refl)
+    next-behind (wins-grown (s .me) (e .facts) (e .later)) (led-next (leading-known k r e) refl)
 
-module _ {sent : List (List ℕ)} {h : History} {s : State} (k : Known h s) (told : (m : Message) → Sent sent m → Tells (s .members) h m) where
+module _ {sent : List (List ℕ)} {h : History} {s : State} (k : Known h s) (told : (m : Message) → Sent sent m → Tells (fixed (s .members)) h m) where
   -- A box that is alone stands and wins.
   alone-next : majority (s .members) (bit (s .me)) ≡ true
       → Next (s .members) (s .me) h (settle (leading (standing s))) (appends (settle (leading (standing s))))
@@ -49,7 +57,7 @@ module _ {sent : List (List ℕ)} {h : History} {s : State} (k : Known h s) (tol
   order-next r room o =
       let c = k .kept .leads r in
       next-behind
-      (adds-grown (s .me) _ (known-small k) (k .facts) (c .start) (rw (k .kept .term) (c .won)) (sym (k .kept .term)))
+      (adds-grown (s .me) _ (k .facts) (c .start) (rw (k .kept .term) (c .won)))
       (led-next (ordered-known o k r room) r)
 
   -- A vote: the asker's request tells that it asked.
@@ -60,7 +68,7 @@ module _ {sent : List (List ℕ)} {h : History} {s : State} (k : Known h s) (tol
       taken-next term (λ u. voting u from) (λ u. vote-answer-to (voting u from) from true ∷ []) k
       (λ more u e l n. voting-next from index prior n (sent-by s (vote-request from to term index prior) (c .arrives) .least) (rw e (g .free)) (rw e (g .new))
       (rw (e, taken-term term s (g .current))
-      (tells-later (known-small k) (k .facts) l (vote-request from to term index prior) (told _ (c .sent-once)))))
+      (tells-later (k .facts) l (vote-request from to term index prior) (told _ (c .sent-once)))))
 
   -- An append: it tells of its leader's log, and of what the leader hands out.
   joins-next : (from to term index prior commit : ℕ) (es : List Entry) → Came sent s (append from to term index prior commit es) → Looks s term
@@ -72,7 +80,7 @@ module _ {sent : List (List ℕ)} {h : History} {s : State} (k : Known h s) (tol
       taken-next term (λ u. joining u index commit es) (λ u. append-answer-to (joining u index commit es) from (index + length es) true ∷ []) k
       (λ more u e l n. joining-next from index prior commit es n
       (rw (e, taken-term term s (look .current), taken-keeps term s .1)
-      (tells-later (known-small k) (k .facts) l (append from to term index prior commit es) (told _ (c .sent-once))))
+      (tells-later (k .facts) l (append from to term index prior commit es) (told _ (c .sent-once))))
       (rw e has))
 
   -- A yes to a candidate of the term is a vote for it.
@@ -103,7 +111,7 @@ module _ {sent : List (List ℕ)} {h : History} {s : State} (k : Known h s) (tol
 
 -- **Each ending keeps the facts.**
 pub ending-next : {sent : List (List ℕ)} {h : History} {s t : State} {ms : List Message} → Known h s
-    → ((m : Message) → Sent sent m → Tells (s .members) h m) → Ending sent s t ms → Next (s .members) (s .me) h t ms
+    → ((m : Message) → Sent sent m → Tells (fixed (s .members)) h m) → Ending sent s t ms → Next (s .members) (s .me) h t ms
 unfolding All adding
 ending-next k told rests = next-same k (k .kept) tt
 ending-next k told stands = standing-next k

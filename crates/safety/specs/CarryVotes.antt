@@ -1,5 +1,5 @@
 -- A box gives its vote, and a candidate counts one. Assumes nothing.
-use Prim.Native.Nat.{ℕ, _≤_, _<_}
+use Prim.Native.Nat.{ℕ, _≤_}
 use native.Mathlib.Omega.{arith}
 use mathlib.Core.Path.{_≡_, refl, _∙_}
 use mathlib.Core.Bool.{Bool, true, false, _||_}
@@ -14,18 +14,19 @@ use Rattle.raft.specs.Record.{State, candidate, last-index, last-term}
 use Rattle.raft.specs.RecordLaws.{Good, Member}
 use Rattle.raft.specs.Commit.{matches}
 use Rattle.raft.specs.SendLaws.{All}
-use Rattle.raft.specs.Receive.{voting, vote-answer-to, adding}
+use Rattle.raft.specs.VoteRequest.{voting, vote-answer-to}
+use Rattle.raft.specs.VoteAnswer.{adding}
 use Rattle.history.specs.History.{History, Fair}
 use Rattle.history.specs.Put.{put-same}
 use Rattle.history.specs.Grow.{raised, Votes, gave}
-use Rattle.history.specs.Steps.{gives, gives-facts}
-use Rattle.history.specs.Later.{Later, gives-later}
+use Rattle.history.specs.Steps.{gives, gives-facts, gives-later}
+use Rattle.history.specs.Later.{Later}
 use Rattle.history.specs.Told.{Asking, Vote, Tells, asking-fair, hands-later}
 use Rattle.history.specs.Election.{gives-vote}
 use Rattle.safety.specs.Masks.{holds-either, bit-holds}
 use Rattle.safety.specs.Carried.{Chose, AsCandidate, Kept}
 use Rattle.safety.specs.Grown.{candidate-later, leader-later, gives-grown}
-use Rattle.safety.specs.Next.{Known, Next, known-small}
+use Rattle.safety.specs.Next.{Known, Next}
 
 -- ---- a vote request
 
@@ -51,20 +52,17 @@ voting-next {h} {s} from index prior k least free new a =
         term = put-same (h .term) (s .me) (s .term);
         log = o .log;
         vote = λ d v. record { same = voted v; cast = λ e. omega arith };
-        hands = hands-later small (k .facts) later (o .hands);
-        stands = λ r. let c = candidate-later small (k .facts) later (λ start w. w) (o .stands r) in
+        hands = hands-later (k .facts) later (o .hands);
+        stands = λ r. let c = candidate-later (k .facts) later refl (λ start w. w) (o .stands r) in
             record { asked = c .asked; unwon = c .unwon; votes = c .votes };
-        leads = λ r. let c = leader-later small (k .facts) later (λ start w. refl) (o .leads r) in
+        leads = λ r. let c = leader-later (k .facts) later refl (λ start w. refl) (o .leads r) in
             record { start = c .start; won = c .won; log = c .log; acked = c .acked };
       };
-      tells = (λ e. gives-vote (s .me) (s .term) from (k .facts), tt);
+      tells = (λ e. gives-vote (s .me) (s .term) from h, tt);
     }
   where
     o : Kept h s
     o = k .kept
-
-    small : s .members < 128
-    small = known-small k
 
     reached : h .term (s .me) ≤ s .term
     reached = omega (arith, o .term)

@@ -4,29 +4,28 @@ use Prim.Native.Nat.{ℕ, _≤_}
 use native.Mathlib.Omega.{arith}
 use mathlib.Core.Path.{_≡_, refl}
 use mathlib.Core.List.{[], _∷_, List·Memᴰ·head}
-use lib.Count.{ones}
 use Rattle.frames.specs.declared.Entry.{Entry}
-use Rattle.frames.specs.Message.{Message, append, append-answer, text, table, entry-fields, sized}
+use Rattle.frames.specs.Message.{Message, append, append-answer, text, entry-fields}
 use Rattle.frames.specs.Rules.{in-order}
-use Rattle.raft.specs.Majority.{holds, majority}
-use Rattle.raft.specs.Record.{State, fresh, handed-out, is-membership, is-other, term-at}
+use Rattle.raft.specs.Record.{State, handed-out}
 use Rattle.raft.specs.Commit.{matches, matching, is-matched, highest, settled, settle}
-use Rattle.raft.specs.Sends.{to-others, appends}
-use Rattle.raft.specs.Step.{standing, leading, ordered, order, prompt}
-use Rattle.raft.specs.Receive.{taking, taken, voting, adding, lacks, agreed, stop, passes, joined, cuts-committed, joining, join, on-append, match-after, next-heard, heard, sends-again, answered, hear, on-append-answer, deliver, is-for, sender, receiver, arrive}
-use Rattle.history.specs.Put.{put}
+use Rattle.raft.specs.Sends.{appends}
+use Rattle.raft.specs.Winning.{leading}
+use Rattle.raft.specs.Order.{ordered, order}
+use Rattle.raft.specs.Prompt.{prompt}
+use Rattle.raft.specs.Append.{lacks, agreed, stop, passes, joined, cuts-committed, joining, on-append}
+use Rattle.raft.specs.AppendAnswer.{match-after, next-heard, heard, sends-again, answered, hear, on-append-answer}
+use Rattle.raft.specs.Event.{takes-order, is-prompted, receives}
 use Rattle.history.specs.Begins.{Begins, begins-long}
-use Rattle.safety.specs.Park.{Park, start, takes-order, is-prompted, receives, outcome, frames, after, Move, steps, Run, stays, moves, run-both, Reached, Leads}
+use Rattle.safety.specs.Park.{Park, after, Move, steps, Run, stays, moves, run-both, Reached, Leads}
 use Rattle.safety.specs.Runs.{parks}
 use Rattle.safety.specs.Demand3.{Demand3}
-use Rattle.safety.specs.Elects.{arrives, box-1-leads, box-2-votes, third, third-reached}
+use Rattle.safety.specs.Elects.{opens as opens-votes, arrives, box-1-leads, box-2-votes, third, third-reached}
 
 -- To open this is to open every step.
 unfoldable pub opens : Unit {0}
-unfolding start outcome fresh after put frames standing leading adding taking taken voting ordered settle settled highest is-matched matching matches
-    order prompt majority ones is-membership is-other holds term-at table entry-fields sized arrive deliver is-for sender receiver on-append join
-    lacks agreed stop passes joined cuts-committed joining on-append-answer hear heard match-after next-heard answered sends-again appends to-others
-    handed-out in-order
+unfolding opens-votes leading ordered order prompt settle settled highest is-matched matching matches entry-fields in-order on-append lacks agreed
+    stop passes joined cuts-committed joining on-append-answer hear heard match-after next-heard answered sends-again appends handed-out
 opens = tt
 
 -- The order, in term 1.
@@ -42,7 +41,7 @@ fourth = after third 1 added (appends added)
 
 to-fourth : Move 7 third fourth
 unfolding opens
-to-fourth = steps 1 refl (takes-order 50 (omega arith)) added (appends added) refl
+to-fourth = steps 1 refl (takes-order 50) (omega arith) added (appends added) refl
 
 -- box 2 takes it up,
 abbrev offer : Message
@@ -57,7 +56,7 @@ fifth = after fourth 2 joined-up (append-answer 2 1 1 1 1 ∷ [])
 to-fifth : Move 7 fourth fifth
 unfolding opens
 to-fifth =
-    steps 2 refl (receives (text offer) (List·Memᴰ·head refl)) joined-up (append-answer 2 1 1 1 1 ∷ [])
+    steps 2 refl (receives (text offer)) (List·Memᴰ·head refl) joined-up (append-answer 2 1 1 1 1 ∷ [])
     (arrives box-2-votes joined-up offer (append-answer 2 1 1 1 1 ∷ []) refl (omega arith) refl)
 
 -- box 1 commits it,
@@ -70,7 +69,7 @@ sixth = after fifth 1 committed []
 to-sixth : Move 7 fifth sixth
 unfolding opens
 to-sixth =
-    steps 1 refl (receives (text (append-answer 2 1 1 1 1)) (List·Memᴰ·head refl)) committed []
+    steps 1 refl (receives (text (append-answer 2 1 1 1 1))) (List·Memᴰ·head refl) committed []
     (arrives added committed (append-answer 2 1 1 1 1) [] refl (omega arith) refl)
 
 -- the run in which the leader commits
@@ -83,7 +82,7 @@ seventh = after sixth 1 committed (appends committed)
 
 to-seventh : Move 7 sixth seventh
 unfolding opens
-to-seventh = steps 1 refl is-prompted committed (appends committed) refl
+to-seventh = steps 1 refl is-prompted tt committed (appends committed) refl
 
 -- and box 2 hands it out.
 abbrev news : Message
@@ -98,7 +97,7 @@ eighth = after seventh 2 handing (append-answer 2 1 1 1 1 ∷ [])
 to-eighth : Move 7 seventh eighth
 unfolding opens
 to-eighth =
-    steps 2 refl (receives (text news) (List·Memᴰ·head refl)) handing (append-answer 2 1 1 1 1 ∷ [])
+    steps 2 refl (receives (text news)) (List·Memᴰ·head refl) handing (append-answer 2 1 1 1 1 ∷ [])
     (arrives joined-up handing news (append-answer 2 1 1 1 1 ∷ []) refl (omega arith) refl)
 
 -- **A run in which a follower hands out an order.**

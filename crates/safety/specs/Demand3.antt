@@ -3,9 +3,10 @@
 use Prim.Native.Nat.{ℕ, _≤_, _<_}
 use mathlib.Core.Path.{_≡_}
 use Rattle.raft.specs.Record.{handed-out}
-use Rattle.raft.specs.Step.{refuse}
+use Rattle.raft.specs.Outcome.{refuse}
+use Rattle.raft.specs.Event.{Event, step}
 use Rattle.history.specs.Begins.{Begins}
-use Rattle.safety.specs.Park.{Event, outcome, Leads}
+use Rattle.safety.specs.Park.{Comes, Leads}
 use Rattle.safety.specs.Runs.{Runs, parks, sites, InBook}
 use Rattle.safety.specs.OneLeader.{one-leader}
 use Rattle.safety.specs.OneBook.{OneBegins, handed-agree, later-leader-holds, earlier-leader-holds}
@@ -36,7 +37,7 @@ pub record Demand3 (R : Runs) : Type 0 where
   pub boxes-agree : (p q : R .Moment) → R .Run (R .first) p → R .Run p q → (i j : ℕ)
       → OneBegins (handed-out (R .box p i)) (handed-out (R .box q j))
   -- "Alarms 6, 7 and 8 never sound", whatever event comes to whichever box at whatever moment.
-  pub no-alarm : (p : R .Moment) → R .Run (R .first) p → (i : ℕ) (e : Event (R .sent p)) (n : ℕ) → outcome e (R .box p i) ≡ refuse n
+  pub no-alarm : (p : R .Moment) → R .Run (R .first) p → (i : ℕ) (e : Event) → Comes (R .sent p) e → (n : ℕ) → step e (R .box p i) ≡ refuse n
       → (n ≡ 6 → ⊥) × (n ≡ 7 → ⊥) × (n ≡ 8 → ⊥)
 
 -- **Demand 3 holds of every run of a park,**

@@ -8,10 +8,11 @@ use Rattle.digits.specs.Room.{over}
 use Rattle.frames.specs.Message.{Message}
 use Rattle.raft.specs.Record.{State, fresh, is-membership}
 use Rattle.raft.specs.Journal.{head, journaled}
-use Rattle.raft.specs.Step.{done}
+use Rattle.raft.specs.Outcome.{done}
+use Rattle.raft.specs.Event.{Event, step}
 use Rattle.journal.specs.Opening.{opened, opening}
 use Rattle.history.specs.Put.{put}
-use Rattle.safety.specs.Park.{Event, outcome, frames}
+use Rattle.safety.specs.Park.{Comes, frames}
 
 -- A box with its disk, and the place on it at which the next line is written.
 pub record Seat : Type 0 where
@@ -40,8 +41,8 @@ seated a i b messages = record { seat = put (a .seat) i b; sent = frames message
 -- What may happen at a site, to one member.
 pub data Happens (mask : ℕ) (a : Site) : Site → Type 0 where
   -- "a step counts, and its messages leave, only once its line, if any, is whole"
-  steps : (i : ℕ) → is-membership i mask ≡ true → (e : Event (a .sent)) (t : State) (messages : List Message)
-      → outcome e (a .seat i .now) ≡ done t messages
+  steps : (i : ℕ) → is-membership i mask ≡ true → (e : Event) → Comes (a .sent) e → (t : State) (messages : List Message)
+      → step e (a .seat i .now) ≡ done t messages
       → Happens mask a (seated a i (record {
         now = t;
         disk = written (a .seat i) (journaled (a .seat i .now) t);
@@ -49,16 +50,16 @@ pub data Happens (mask : ℕ) (a : Site) : Site → Type 0 where
       }) messages)
   -- "Power may fail at any byte of a journal line .. Whole lines stay, and a box comes back only by its journal": so many bytes of a step's line
   -- are on the disk, nothing was sent, and the journal is opened
-  fails : (i : ℕ) → is-membership i mask ≡ true → (e : Event (a .sent)) (t : State) (messages : List Message)
-      → outcome e (a .seat i .now) ≡ done t messages → (k : ℕ) (u : State) (n : ℕ)
+  fails : (i : ℕ) → is-membership i mask ≡ true → (e : Event) → Comes (a .sent) e → (t : State) (messages : List Message)
+      → step e (a .seat i .now) ≡ done t messages → (k : ℕ) (u : State) (n : ℕ)
       → opening i (written (a .seat i) (take k (journaled (a .seat i .now) t))) ≡ opened u n
       → Happens mask a (seated a i (record { now = u; disk = written (a .seat i) (take k (journaled (a .seat i .now) t)); place = n }) [])
   -- power fails between steps, and the journal is opened
   reopens : (i : ℕ) → is-membership i mask ≡ true → (u : State) (n : ℕ) → opening i (a .seat i .disk) ≡ opened u n
       → Happens mask a (seated a i (record { now = u; disk = a .seat i .disk; place = n }) [])
-  -- the host cuts off what is behind the place
-  trims : (i : ℕ) → is-membership i mask ≡ true
-      → Happens mask a (seated a i (record { now = a .seat i .now; disk = take (a .seat i .place) (a .seat i .disk); place = a .seat i .place }) [])
+  -- the host cuts off what is behind the place, or a part of it where power fails in that, and `reopens` follows
+  trims : (i : ℕ) → is-membership i mask ≡ true → (k : ℕ)
+      → Happens mask a (seated a i (record { now = a .seat i .now; disk = take (a .seat i .place + k) (a .seat i .disk); place = a .seat i .place }) [])
 
 -- From one moment of a run to a later one.
 pub data Goes (mask : ℕ) (a : Site) : Site → Type 0 where

@@ -8,12 +8,14 @@ use lib.ListN.{length, take}
 use Rattle.frames.specs.Message.{Message}
 use Rattle.raft.specs.Record.{State, is-membership}
 use Rattle.raft.specs.Journal.{journaled}
-use Rattle.raft.specs.Step.{done}
+use Rattle.raft.specs.Outcome.{done}
+use Rattle.raft.specs.Event.{Event, times-out, takes-order, is-prompted, receives, step}
 use Rattle.journal.specs.LineSpelling.{head-nine}
 use Rattle.journal.specs.Opening.{restarted, opened, opening}
+use Rattle.journal.specs.Runs.{Step}
 use Rattle.journal.specs.LifeLaws.{Life, life-opens, life-fails}
 use Rattle.history.specs.Put.{put, put-same, put-other, put-all}
-use Rattle.safety.specs.Park.{Park, start, Event, times-out, takes-order, is-prompted, receives, outcome, frames, after, Move, Run, run-both}
+use Rattle.safety.specs.Park.{Park, start, Comes, frames, after, Move, Run, run-both}
 use Rattle.safety.specs.Proper.{event-steps}
 use Rattle.safety.specs.Disks.{Seat, Site, built, written, seated, Happens, steps, fails, reopens, trims, Goes, stays, goes}
 
@@ -23,20 +25,12 @@ use Rattle.safety.specs.Disks.{Seat, Site, built, written, seated, Happe
 abbrev pub Among : List (List ℕ) → List (List ℕ) → Type 0
 Among few many = (bytes : List ℕ) → List·Memᴰ bytes few → List·Memᴰ bytes many
 
--- An event may happen where more was sent,
-pub wider : {few many : List (List ℕ)} → Among few many → Event few → Event many
-wider w times-out = times-out
-wider w (takes-order o l) = takes-order o l
-wider w is-prompted = is-prompted
-wider w (receives bytes m) = receives bytes (w bytes m)
-
--- and comes to the same.
-pub wider-same : {few many : List (List ℕ)} (w : Among few many) (e : Event few) (s : State) → outcome (wider w e) s ≡ outcome e s
-unfolding wider outcome
-wider-same w times-out s = refl
-wider-same w (takes-order o l) s = refl
-wider-same w is-prompted s = refl
-wider-same w (receives bytes m) s = refl
+-- An event may come where more was sent.
+pub wider : {few many : List (List ℕ)} → Among few many → (e : Event) → Comes few e → Comes many e
+wider w times-out c = tt
+wider w (takes-order o) c = c
+wider w is-prompted c = tt
+wider w (receives bytes) c = w bytes c
 
 -- More frames on either side.
 pub among-more : (new few many : List (List ℕ)) → Among few many → Among (new ++ few) (new ++ many)
@@ -110,10 +104,10 @@ module _ (mask : ℕ) (a : Site) (p : Park) (s : Mirrors mask a p) (i : ℕ) (m 
         };
       }
 
-  module _ (e : Event (a .sent)) (t : State) (ms : List Message) (o : outcome e (a .seat i .now) ≡ done t ms) where
-    -- An event that is not refused is not refused in the park.
-    on-done : outcome (wider (s .known) e) (p .box i) ≡ done t ms
-    on-done = wider-same (s .known) e (p .box i) ∙ (rw (← s .same i) o)
+  module _ (e : Event) (c : Comes (a .sent) e) (t : State) (ms : List Message) (o : step e (a .seat i .now) ≡ done t ms) where
+    -- The event comes to the same in the park.
+    on-moved : Move mask p (after p i t ms)
+    on-moved = Move.steps i m e (wider (s .known) e c) t ms (rw (← s .same i) o)
 
     -- A step is the park's step,
     on-stepped : (n : ℕ) (disk : List ℕ) → Life i mask t n disk
@@ -121,7 +115,7 @@ module _ (mask : ℕ) (a : Site) (p : Park) (s : Mirrors mask a p) (i : ℕ) (m 
     on-stepped n disk l =
         record {
           park = after p i t ms;
-          run = Run.moves Run.stays (Move.steps i m (wider (s .known) e) t ms on-done);
+          run = Run.moves Run.stays on-moved;
           mirrors = mirrors-put mask a p i _ _ ms ms (λ j k. s .same j) (s .lives) refl l (among-more (frames ms) (a .sent) (p .sent) (s .known));
         }
 
@@ -132,20 +126,20 @@ module _ (mask : ℕ) (a : Site) (p : Park) (s : Mirrors mask a p) (i : ℕ) (m 
     on-both u n disk r l =
         record {
           park = after (after p i t ms) i (restarted (put (p .box) i t i)) [];
-          run = Run.moves (Run.moves Run.stays (Move.steps i m (wider (s .known) e) t ms on-done)) (Move.restarts i m);
+          run = Run.moves (Run.moves Run.stays on-moved) (Move.restarts i m);
           mirrors = mirrors-put mask a (after p i t ms) i _ _ [] [] (λ j k. s .same j ∙ sym (put-other (p .box) i t j k)) (s .lives)
               (r ∙ ap restarted (sym (put-same (p .box) i t))) l (λ bytes x. Memᴰ·append-right (frames ms) (s .known bytes x));
         }
 
 -- **Whatever happens at a site, its park runs on.**
 pub happens-on : (mask : ℕ) (a b : Site) (p : Park) → Mirrors mask a p → Happens mask a b → RunsOn mask p b
-happens-on mask a b p s (steps i m e t ms o) =
-    on-stepped mask a p s i m e t ms o _ _ (Life.steps (s .lives i m) (event-steps (a .sent) (a .seat i .now) e t ms o))
-happens-on mask a b p s (fails i m e t ms o k u n h) =
-    go (life-fails i mask (a .seat i .now) t (a .seat i .place) (a .seat i .disk) (s .lives i m) step k)
+happens-on mask a b p s (steps i m e c t ms o) =
+    on-stepped mask a p s i m e c t ms o _ _ (Life.steps (s .lives i m) (event-steps (a .sent) (a .seat i .now) e c t ms o))
+happens-on mask a b p s (fails i m e c t ms o k u n h) =
+    go (life-fails i mask (a .seat i .now) t (a .seat i .place) (a .seat i .disk) (s .lives i m) torn-step k)
   where
-    step : Rattle.journal.specs.Runs.Step (a .seat i .now) t
-    step = event-steps (a .sent) (a .seat i .now) e t ms o
+    torn-step : Step (a .seat i .now) t
+    torn-step = event-steps (a .sent) (a .seat i .now) e c t ms o
 
     torn : List ℕ
     torn = written (a .seat i) (take k (journaled (a .seat i .now) t))
@@ -155,15 +149,15 @@ happens-on mask a b p s (fails i m e t ms o k u n h) =
         → RunsOn mask p (seated a i (record { now = u; disk = torn; place = n }) [])
     go (inl before) =
         let same : u ≡ restarted (a .seat i .now) = cc in
-        on-restarted mask a p s i m u n torn same (Life.fails (s .lives i m) step k h)
+        on-restarted mask a p s i m u n torn same (Life.fails (s .lives i m) torn-step k h)
     go (inr behind) =
         let same : u ≡ restarted t = cc in
-        on-both mask a p s i m e t ms o u n torn same (Life.fails (s .lives i m) step k h)
+        on-both mask a p s i m e c t ms o u n torn same (Life.fails (s .lives i m) torn-step k h)
 happens-on mask a b p s (reopens i m u n h) =
     let was = life-opens i mask (a .seat i .now) (a .seat i .place) (a .seat i .disk) (s .lives i m) in
     let same : u ≡ restarted (a .seat i .now) = cc in
     on-restarted mask a p s i m u n (a .seat i .disk) same (Life.reopens (s .lives i m) h)
-happens-on mask a b p s (trims i m) = on-trimmed mask a p s i m _ _ (Life.trims (s .lives i m))
+happens-on mask a b p s (trims i m k) = on-trimmed mask a p s i m _ _ (Life.trims (s .lives i m) k)
 
 -- So a run of the site is a run of its park.
 pub goes-on : (mask : ℕ) {a b : Site} (p : Park) → Mirrors mask a p → Goes mask a b → RunsOn mask p b

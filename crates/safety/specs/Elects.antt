@@ -11,11 +11,23 @@ use Rattle.raft.specs.Majority.{holds, majority}
 use Rattle.raft.specs.Record.{State, fresh, is-membership, is-other, term-at}
 use Rattle.raft.specs.Commit.{settle}
 use Rattle.raft.specs.Sends.{to-others, vote-requests, appends}
-use Rattle.raft.specs.Step.{done, standing, leading, won, timeout}
-use Rattle.raft.specs.Receive.{taking, taken, grants, says-yes, voting, asked, on-vote-request, adding, counted, counts, on-vote-answer, deliver, is-for, sender, receiver, arrive, arrive-read, receive}
-use Rattle.journal.specs.Opening.{stored, restarted}
+use Rattle.raft.specs.Outcome.{done}
+use Rattle.raft.specs.Timeout.{standing, timeout}
+use Rattle.raft.specs.Winning.{leading, won}
+use Rattle.raft.specs.AnyMessage.{taking, taken}
+use Rattle.raft.specs.VoteRequest.{grants, voting, asked, on-vote-request}
+use Rattle.raft.specs.VoteAnswer.{adding, counted, counts, on-vote-answer}
+use Rattle.raft.specs.Receive.{sender, receiver, term-of, current, deliver, is-for, arrive, arrive-read, receive}
+use Rattle.raft.specs.Event.{times-out, receives, step}
+use Rattle.journal.specs.Opening.{restarted}
 use Rattle.history.specs.Put.{put}
-use Rattle.safety.specs.Park.{Park, start, times-out, receives, outcome, frames, after, Move, steps, restarts, stays, moves, Reached, Leads}
+use Rattle.safety.specs.Park.{Park, start, frames, after, Move, steps, restarts, stays, moves, Reached, Leads}
+
+-- To open this is to open every step of an election.
+unfoldable pub opens : Unit {0}
+unfolding start step fresh after put frames is-membership is-other holds majority ones term-at timeout standing vote-requests to-others table sized
+    arrive is-for sender receiver term-of deliver current taken taking on-vote-request asked grants voting on-vote-answer counts counted adding won
+opens = tt
 
 -- Box 1 of three stands,
 abbrev pub box-1-stands : State
@@ -25,12 +37,13 @@ abbrev pub first : Park
 first = after (start 7) 1 box-1-stands (vote-requests box-1-stands)
 
 first-reached : Reached 7 first
-unfolding start outcome timeout majority ones is-membership holds fresh
-first-reached = moves stays (steps 1 refl times-out box-1-stands (vote-requests box-1-stands) refl)
+unfolding opens
+first-reached = moves stays (steps 1 refl times-out tt box-1-stands (vote-requests box-1-stands) refl)
 
 -- a frame as it was written is the message that arrives
-pub arrives : (s t : State) (m : Message) (ms : List Message) → obeys m ≡ true → sized (table m) → arrive m s ≡ done t ms → receive (text m) s ≡ done t ms
-unfolding receive arrive-read
+pub arrives : (s t : State) (m : Message) (ms : List Message) → obeys m ≡ true → sized (table m) → arrive m s ≡ done t ms
+    → step (receives (text m)) s ≡ done t ms
+unfolding step receive arrive-read
 arrives s t m ms o z e = rw (frame-when (text m) m o z refl) e
 
 -- box 2 gives it its vote,
@@ -44,15 +57,15 @@ abbrev pub second : Park
 second = after first 2 box-2-votes (vote-answer 2 1 1 1 ∷ [])
 
 second-reached : Reached 7 second
-unfolding start outcome fresh after put frames standing vote-requests to-others is-membership is-other holds table sized arrive deliver is-for sender receiver on-vote-request asked says-yes grants taken taking voting term-at
+unfolding opens
 second-reached =
     moves first-reached
-    (steps 2 refl (receives (text request) (List·Memᴰ·head refl)) box-2-votes (vote-answer 2 1 1 1 ∷ [])
+    (steps 2 refl (receives (text request)) (List·Memᴰ·head refl) box-2-votes (vote-answer 2 1 1 1 ∷ [])
     (arrives (fresh 2 7) box-2-votes request (vote-answer 2 1 1 1 ∷ []) refl (omega arith) refl))
 
 -- (which it still has when it comes back,)
 pub comes-back-voted : (q : Park) × Move 7 second q × (q .box 2 .vote ≡ 1)
-unfolding after put voting restarted stored is-membership holds
+unfolding opens restarted
 comes-back-voted = (_, restarts 2 refl, refl)
 
 -- and box 1 leads.
@@ -63,13 +76,13 @@ abbrev pub third : Park
 third = after second 1 box-1-leads (appends box-1-leads)
 
 pub third-reached : Reached 7 third
-unfolding start outcome fresh after put frames standing vote-requests to-others is-membership is-other holds table sized arrive deliver is-for sender receiver on-vote-answer counts counted taken adding won majority ones
+unfolding opens
 third-reached =
     moves second-reached
-    (steps 1 refl (receives (text (vote-answer 2 1 1 1)) (List·Memᴰ·head refl)) box-1-leads (appends box-1-leads)
+    (steps 1 refl (receives (text (vote-answer 2 1 1 1))) (List·Memᴰ·head refl) box-1-leads (appends box-1-leads)
     (arrives box-1-stands box-1-leads (vote-answer 2 1 1 1) (appends box-1-leads) refl (omega arith) refl))
 
 -- **A run with a leader.**
 pub elects : Reached 7 third × Leads (third .box 1) 1
-unfolding after put settle leading adding standing fresh
+unfolding opens settle leading
 elects = (third-reached, record { role = refl; in-term = refl })

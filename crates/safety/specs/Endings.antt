@@ -12,11 +12,18 @@ use Rattle.raft.specs.Majority.{bit, majority}
 use Rattle.raft.specs.Record.{State, leader, last-index}
 use Rattle.raft.specs.Commit.{settle}
 use Rattle.raft.specs.Sends.{append-to, appends, vote-requests}
-use Rattle.raft.specs.Step.{standing, leading, ordered}
-use Rattle.raft.specs.Receive.{taken, voting, vote-answer-to, adding, lacks, following, joining, append-answer-to, deliver}
+use Rattle.raft.specs.Timeout.{standing}
+use Rattle.raft.specs.Winning.{leading}
+use Rattle.raft.specs.Order.{ordered}
+use Rattle.raft.specs.AnyMessage.{taken}
+use Rattle.raft.specs.VoteRequest.{voting, vote-answer-to}
+use Rattle.raft.specs.VoteAnswer.{adding}
+use Rattle.raft.specs.Append.{lacks, following, joining, append-answer-to}
+use Rattle.raft.specs.Receive.{deliver}
+use Rattle.raft.specs.Event.{Event, times-out, takes-order, is-prompted, receives, step}
 use Rattle.raft.specs.StepLaws.{timeout-ends, order-ends, prompt-ends}
-use Rattle.raft.specs.ReceiveLaws.{Ends, ends-refuse, vote-request-ends, Grants, yes-facts, Counts, vote-answer-ends, Looks, append-ends, Hears, settled-heard, append-answer-ends, Arrives}
-use Rattle.safety.specs.Park.{Event, times-out, takes-order, is-prompted, receives, outcome}
+use Rattle.raft.specs.ReceiveLaws.{Ends, ends-refuse, vote-request-ends, Grants, Counts, vote-answer-ends, Looks, append-ends, Hears, settled-heard, append-answer-ends, Arrives}
+use Rattle.safety.specs.Park.{Comes}
 use Rattle.safety.specs.Sent.{Sent, bytes-come}
 
 -- A message that was sent has come to the box for which it is.
@@ -59,27 +66,25 @@ pub data Ending (sent : List (List ℕ)) (s : State) : State → List Message �
 
 -- Each message that has come ends so,
 deliver-ending : (sent : List (List ℕ)) (s : State) (m : Message) → Came sent s m → Ends (Ending sent s) (deliver m s)
-unfolding deliver
 deliver-ending sent s (vote-request from to term index prior) c =
-    vote-request-ends (Ending sent s) s from term index prior
-    (λ y. votes from to term index prior c (yes-facts s from term index prior y)) (λ n. votes-not from term)
+    vote-request-ends (Ending sent s) s from to term index prior (λ y. votes from to term index prior c y) (votes-not from term)
 deliver-ending sent s (vote-answer from to term reply) c =
-    vote-answer-ends (Ending sent s) s from term reply (λ k m. wins from to term reply c k m) (λ k m. counts from to term reply c k)
-    (λ n. takes term)
+    vote-answer-ends (Ending sent s) s from to term reply (λ k m. wins from to term reply c k m) (λ k m. counts from to term reply c k)
+    (takes term)
 deliver-ending sent s (append from to term index prior commit es) c =
-    append-ends (Ending sent s) s from term index prior commit es (λ l. declines from) (λ l n. wants from term)
+    append-ends (Ending sent s) s from to term index prior commit es (λ l. declines from) (λ l n. wants from term)
     (λ l n k. joins from to term index prior commit es c l n)
 deliver-ending sent s (append-answer from to term reply index) c =
-    append-answer-ends (Ending sent s) s from term reply index (λ h b. hears-again from to term reply index c h)
-    (λ h b. hears from to term reply index c h) (λ n. takes term)
+    append-answer-ends (Ending sent s) s from to term reply index (λ h b. hears-again from to term reply index c h)
+    (λ h b. hears from to term reply index c h) (takes term)
 
--- and so does each event that is not refused.
-pub event-ending : (sent : List (List ℕ)) (s : State) (e : Event sent) → Ends (Ending sent s) (outcome e s)
-unfolding outcome
-event-ending sent s times-out = timeout-ends (Ending sent s) s (λ r. rests) (λ c m. leads-alone m) (λ c m. stands)
-event-ending sent s (takes-order o l) = order-ends (Ending sent s) o s (λ r l. takes-up r l o)
-event-ending sent s is-prompted = prompt-ends (Ending sent s) s (λ r. prompts r)
-event-ending sent s (receives bytes there) =
+-- and so does each event that may come and is not refused.
+pub event-ending : (sent : List (List ℕ)) (s : State) (e : Event) → Comes sent e → Ends (Ending sent s) (step e s)
+unfolding step
+event-ending sent s times-out c = timeout-ends (Ending sent s) s (λ r. rests) (λ c m. leads-alone m) (λ c m. stands)
+event-ending sent s (takes-order o) c = order-ends (Ending sent s) o s (λ r l. takes-up r l o)
+event-ending sent s is-prompted c = prompt-ends (Ending sent s) s (λ r. prompts r)
+event-ending sent s (receives bytes) there =
     bytes-come (Ends (Ending sent s)) s bytes
     (λ m a r. deliver-ending sent s m (record { arrives = a; sent-once = record { bytes = bytes; there = there; read = r } }))
     (ends-refuse (Ending sent s) 1) (ends-refuse (Ending sent s) 2)

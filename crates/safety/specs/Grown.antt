@@ -1,16 +1,16 @@
 -- A history that has grown by what one box did: it is later, and for every other box as it was. So the others stay kept. Assumes nothing.
-use Prim.Native.Nat.{ℕ, suc, _≤_, _<_}
-use mathlib.Core.Path.{_≡_, refl, _∙_}
+use Prim.Native.Nat.{ℕ, suc, _≤_}
+use mathlib.Core.Path.{_≡_, refl, _∙_, sym}
 use mathlib.Core.List.{List}
 use mathlib.Core.Logic.{_⊎_, inl, inr}
 use Rattle.frames.specs.declared.Entry.{Entry}
 use Rattle.raft.specs.Record.{State}
+use Rattle.history.specs.InForce.{Rule, fixed}
 use Rattle.history.specs.History.{History, Facts}
-use Rattle.history.specs.Book.{one-leader}
 use Rattle.history.specs.Put.{put-other}
 use Rattle.history.specs.Grow.{asks-now, Asks, raised, stood, Votes, gave, with-leaders, winner, longer, moved}
-use Rattle.history.specs.Later.{Later, later-self, later-trans, raised-later, asks-later, gives-later, adds-later, accepts-later}
-use Rattle.history.specs.Steps.{asks, gives, wins, adds, accepts}
+use Rattle.history.specs.Later.{Later, later-self, later-trans, raised-later}
+use Rattle.history.specs.Steps.{asks, gives, wins, adds, accepts, asks-later, gives-later, adds-later, accepts-later}
 use Rattle.history.specs.Told.{hands-later, vote-later}
 use Rattle.safety.specs.Carried.{AsCandidate, AsLeader, Kept}
 
@@ -107,14 +107,14 @@ accepts-grown i s index es h l =
     }
 
 -- A term that another box has won is not the one that box c has won.
-apart : {members : ℕ} {h : History} → members < 128 → Facts members h → (t c d : ℕ) (start other : List Entry) → h .leaders .won t c start
+apart : {rule : Rule} {h : History} → Facts rule h → (t c d : ℕ) (start other : List Entry) → h .leaders .won t c start
     → h .leaders .won t d other → (d ≡ c → ⊥) → ⊥
-apart small f t c d start other v w n = n (one-leader small f t d c other start w v)
+apart f t c d start other v w n = n (f .won-once t d c other start w v)
 
 -- a candidate wins,
-pub wins-grown : {members : ℕ} {h : History} (c : ℕ) → members < 128 → Facts members (wins c h) → Later h (wins c h) → Grown c h (wins c h)
+pub wins-grown : {rule : Rule} {h : History} (c : ℕ) → Facts rule (wins c h) → Later h (wins c h) → Grown c h (wins c h)
 unfolding wins moved with-leaders winner
-wins-grown {members} {h} c small f l =
+wins-grown {rule} {h} c f l =
     record {
       later = l;
       term = λ j n. put-other (h .term) c _ j n;
@@ -122,7 +122,7 @@ wins-grown {members} {h} c small f l =
       voted = λ j t d n v. v;
       won = λ t d start n w. before n w;
       logs = λ t d start n w. put-other (h .leaders .log) (h .term c) (h .log c) t
-          (λ e. apart small f (h .term c) c d (h .log c) start (inr asks-now) (inl (rw e at w)) n);
+          (λ e. apart f (h .term c) c d (h .log c) start (inr asks-now) (inl (rw e at w)) n);
     }
   where
     before : {t d : ℕ} {start : List Entry} → (d ≡ c → ⊥) → h .leaders .won t d start ⊎ Asks c (h .term c) (h .log c) t d start
@@ -131,31 +131,32 @@ wins-grown {members} {h} c small f l =
     before n (inr q) = absurd (n (q .box))
 
 -- and a leader adds an entry.
-pub adds-grown : {members : ℕ} {h : History} (c : ℕ) (e : Entry) → members < 128 → Facts members h → (start : List Entry)
-    → h .leaders .won (h .term c) c start → e .term ≡ h .term c → Grown c h (adds c e h)
+pub adds-grown : {rule : Rule} {h : History} (c : ℕ) (e : Entry) → Facts rule h → (start : List Entry)
+    → h .leaders .won (h .term c) c start → Grown c h (adds c e h)
 unfolding adds moved with-leaders longer
-adds-grown {members} {h} c e small f start own new =
+adds-grown {rule} {h} c e f start own =
     record {
-      later = adds-later c e f new;
+      later = adds-later c e h;
       term = λ j n. put-other (h .term) c _ j n;
       log = λ j n. put-other (h .log) c _ j n;
       voted = λ j t d n v. v;
       won = λ t d start n w. w;
       logs = λ t d other n w. put-other (h .leaders .log) (h .term c) _ t
-          (λ x. apart small f (h .term c) c d start other own (rw x at w) n);
+          (λ x. apart f (h .term c) c d start other own (rw x at w) n);
     }
 
 -- ---- what stays kept
 
-module _ {h more : History} {s : State} (small : s .members < 128) (f : Facts (s .members) h) (l : Later h more) where
+module _ {h more : History} {s : State} (f : Facts (fixed (s .members)) h) (l : Later h more)
+    (own : more .log (s .me) ≡ h .log (s .me)) where
   -- a candidate, where it has won nothing
   pub candidate-later : ((start : List Entry) → more .leaders .won (s .term) (s .me) start → h .leaders .won (s .term) (s .me) start)
       → AsCandidate h s → AsCandidate more s
   candidate-later same o =
       record {
-        asked = l .asked (s .term) (s .me) (s .log) (o .asked);
+        asked = rw own (l .asked (s .term) (s .me) (h .log (s .me)) (o .asked));
         unwon = λ start w. o .unwon start (same start w);
-        votes = λ j m v. vote-later small f l (o .votes j m v);
+        votes = λ j m v. vote-later f l (o .votes j m v);
       }
 
   -- a leader, where its term's log is as it was
@@ -165,19 +166,19 @@ module _ {h more : History} {s : State} (small : s .members < 128) (f : Facts (s
       record {
         start = o .start;
         won = l .leaders .won (s .term) (s .me) (o .start) (o .won);
-        log = same (o .start) (o .won) ∙ o .log;
+        log = same (o .start) (o .won) ∙ o .log ∙ sym own;
         acked = λ j m a. l .acked j (s .term) _ (o .acked j m a);
       }
 
 -- **Another box stays kept.**
-pub kept-aside : {i : ℕ} {h more : History} (s : State) → s .members < 128 → Facts (s .members) h → Grown i h more → (s .me ≡ i → ⊥)
+pub kept-aside : {i : ℕ} {h more : History} (s : State) → Facts (fixed (s .members)) h → Grown i h more → (s .me ≡ i → ⊥)
     → Kept h s → Kept more s
-kept-aside s small f g n o =
+kept-aside s f g n o =
     record {
       term = g .term (s .me) n ∙ o .term;
       log = g .log (s .me) n ∙ o .log;
       vote = λ d v. o .vote d (g .voted (s .me) (s .term) d n v);
-      hands = hands-later small f (g .later) (o .hands);
-      stands = λ r. candidate-later small f (g .later) (λ start w. g .won (s .term) (s .me) start n w) (o .stands r);
-      leads = λ r. leader-later small f (g .later) (λ start w. g .logs (s .term) (s .me) start n w) (o .leads r);
+      hands = rw (g .log (s .me) n) (hands-later f (g .later) (o .hands));
+      stands = λ r. candidate-later f (g .later) (g .log (s .me) n) (λ start w. g .won (s .term) (s .me) start n w) (o .stands r);
+      leads = λ r. leader-later f (g .later) (g .log (s .me) n) (λ start w. g .logs (s .term) (s .me) start n w) (o .leads r);
     }

@@ -13,9 +13,16 @@ use Rattle.raft.specs.Record.{State, leader, handed-out}
 use Rattle.raft.specs.Commit.{settle}
 use Rattle.raft.specs.Sends.{appends}
 use Rattle.raft.specs.SendLaws.{All, vote-requests-all, appends-all}
-use Rattle.raft.specs.Step.{standing, leading, ordered}
-use Rattle.raft.specs.Receive.{taken, voting, adding, lacks, joined, following, commit-after, joining, heard}
+use Rattle.raft.specs.Timeout.{standing}
+use Rattle.raft.specs.Winning.{leading}
+use Rattle.raft.specs.Order.{ordered}
+use Rattle.raft.specs.AnyMessage.{taken}
+use Rattle.raft.specs.VoteRequest.{voting}
+use Rattle.raft.specs.VoteAnswer.{adding}
+use Rattle.raft.specs.Append.{lacks, joined, following, commit-after, joining}
+use Rattle.raft.specs.AppendAnswer.{heard}
 use Rattle.raft.specs.ReceiveLaws.{taken-keeps, Looks}
+use Rattle.history.specs.InForce.{fixed}
 use Rattle.history.specs.Begins.{Begins, begins-same, begins-take}
 use Rattle.history.specs.History.{History}
 use Rattle.history.specs.Descent.{won-descends}
@@ -24,7 +31,7 @@ use Rattle.history.specs.Handed.{joins-handed}
 use Rattle.history.specs.Told.{Sending, Tells, sending-won}
 use Rattle.safety.specs.Sent.{Sent}
 use Rattle.safety.specs.Endings.{Came, Ending, rests, stands, leads-alone, takes-up, prompts, takes, votes, votes-not, wins, counts, declines, wants, joins, hears, hears-again}
-use Rattle.safety.specs.Next.{Known, known-small}
+use Rattle.safety.specs.Next.{Known}
 
 -- It leads; or it is what the box handed out before, or a beginning of what an append that was sent carried.
 pub data HandsOut (sent : List (List ℕ)) (h : History) (s t : State) : Type 0 where
@@ -35,7 +42,7 @@ pub data HandsOut (sent : List (List ℕ)) (h : History) (s t : State) : Type 0 
 
 -- An append is accepted: nothing that was handed out is cut, and more is handed out only as the leader does.
 joined-hands : {h : History} {s : State} (from term index prior commit : ℕ) (es : List Entry) → Known h s
-    → Sending (s .members) h from term index prior commit es → s .term ≤ term → lacks (s .log) index prior ≡ false
+    → Sending (fixed (s .members)) h from term index prior commit es → s .term ≤ term → lacks (s .log) index prior ≡ false
     → (P : List Entry → Type 0) → P (take (s .commit) (s .log))
     → ((log : List Entry) → Begins log (take commit (h .leaders .log term)) → P log)
     → P (take (commit-after (s .commit) commit (index + length es)) (joined (s .log) index es))
@@ -54,12 +61,12 @@ joined-hands {h} {s} from term index prior commit es k sent l has P own sender =
     join = joined-joins (s .log) (sent .offered) has (rw (k .kept .log) at (k .facts .descends (s .me))) (won-descends (k .facts) (sending-won sent))
 
     kept : Begins (take n (s .log)) (joined (s .log) index es)
-    kept = joins-handed (known-small k) (k .facts) (k .kept .hands) (sending-won sent) l join
+    kept = joins-handed (k .facts) (rw (k .kept .log) at (k .kept .hands)) (sending-won sent) l join
 
     go : Dec (min commit m ≤ n) → P (take (max n (min commit m)) (joined (s .log) index es))
     go (yes a) =
         let all : max n (min commit m) ≡ n = omega arith in
-        rw (all, rw (length-take-le n (s .log) (k .kept .hands .within)) at (kept .first)) own
+        rw (all, rw (length-take-le n (s .log) (rw (k .kept .log) at (k .kept .hands .within))) at (kept .first)) own
     go (no a) =
         let all : max n (min commit m) ≡ min commit m = omega arith in
         let long = length-take-le m log (offered-long (sent .offered)) in
@@ -72,7 +79,7 @@ taken-same-hands : (term : ℕ) (s : State) → take (taken term s .commit) (tak
 taken-same-hands term s = rw (taken-keeps term s .2, taken-keeps term s .3)
 
 -- the accepted append, its term taken
-joins-hands-out : {sent : List (List ℕ)} {h : History} {s : State} → Known h s → ((m : Message) → Sent sent m → Tells (s .members) h m)
+joins-hands-out : {sent : List (List ℕ)} {h : History} {s : State} → Known h s → ((m : Message) → Sent sent m → Tells (fixed (s .members)) h m)
     → (from to term index prior commit : ℕ) (es : List Entry) → Came sent s (append from to term index prior commit es) → Looks s term
     → lacks (taken term s .log) index prior ≡ false → HandsOut sent h s (joining (taken term s) index commit es)
 unfolding joining handed-out Tells
@@ -83,7 +90,7 @@ joins-hands-out {sent} {h} {s} k told from to term index prior commit es c look 
 
 -- **Each ending hands out so.**
 pub ending-hands : {sent : List (List ℕ)} {h : History} {s t : State} {ms : List Message} → Known h s
-    → ((m : Message) → Sent sent m → Tells (s .members) h m) → Ending sent s t ms → HandsOut sent h s t
+    → ((m : Message) → Sent sent m → Tells (fixed (s .members)) h m) → Ending sent s t ms → HandsOut sent h s t
 unfolding handed-out standing leading ordered settle voting adding following heard
 ending-hands k told rests = same refl
 ending-hands k told stands = same refl

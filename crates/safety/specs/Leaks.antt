@@ -5,30 +5,30 @@ use native.Mathlib.Omega.{arith}
 use mathlib.Core.Path.{_≡_, refl, sym, _∙_, ap}
 use mathlib.Core.Bool.{true}
 use mathlib.Core.List.{List, [], _∷_, List·Memᴰ·head, List·Memᴰ·tail, Memᴰ·append-right}
-use lib.Count.{ones}
 use lib.ListN.{length, take}
 use Rattle.digits.specs.RoomLaws.{over-nothing}
-use Rattle.frames.specs.Message.{Message, vote-request, vote-answer, text, table, sized}
-use Rattle.raft.specs.Majority.{holds, majority}
-use Rattle.raft.specs.Record.{State, fresh, is-membership, is-other, term-at}
+use Rattle.frames.specs.Message.{Message, vote-request, vote-answer, text}
+use Rattle.raft.specs.Record.{State, fresh, is-membership}
 use Rattle.raft.specs.Journal.{head, journaled}
 use Rattle.raft.specs.Commit.{settle}
-use Rattle.raft.specs.Sends.{to-others, vote-requests, appends}
-use Rattle.raft.specs.Step.{done, standing, leading, won, timeout}
-use Rattle.raft.specs.Receive.{taking, taken, grants, says-yes, voting, asked, on-vote-request, adding, counted, counts, on-vote-answer, deliver, is-for, sender, receiver, arrive}
-use Rattle.journal.specs.Opening.{stored, restarted, opened, opening}
+use Rattle.raft.specs.Sends.{vote-requests, appends}
+use Rattle.raft.specs.Outcome.{done}
+use Rattle.raft.specs.Timeout.{standing}
+use Rattle.raft.specs.Winning.{leading}
+use Rattle.raft.specs.AnyMessage.{taking}
+use Rattle.raft.specs.VoteRequest.{voting}
+use Rattle.raft.specs.VoteAnswer.{adding}
+use Rattle.raft.specs.Event.{Event, times-out, receives, step}
+use Rattle.journal.specs.Opening.{restarted, opened, opening}
 use Rattle.journal.specs.LineSpelling.{head-nine}
 use Rattle.journal.specs.LifeLaws.{Life, life-opens}
-use Rattle.history.specs.Put.{put}
-use Rattle.safety.specs.Park.{Event, times-out, receives, outcome, frames, Leads}
+use Rattle.safety.specs.Park.{Comes, frames, Leads}
 use Rattle.safety.specs.Disks.{Site, built, written, seated, Happens, steps, fails, Goes, stays, goes}
-use Rattle.safety.specs.Elects.{arrives, request, box-1-stands, box-2-votes, box-1-leads}
+use Rattle.safety.specs.Elects.{opens as opens-votes, arrives, request, box-1-stands, box-2-votes, box-1-leads}
 
 -- To open this is to open every step.
 opens : Unit {0}
-unfolding built seated put frames outcome fresh standing leading adding taking taken voting settle timeout majority ones is-membership is-other holds
-    term-at table sized arrive deliver is-for sender receiver on-vote-request asked says-yes grants on-vote-answer counts counted won to-others
-    vote-requests restarted stored
+unfolding opens-votes built seated leading settle restarted
 opens = tt
 
 -- A box's step, its line whole.
@@ -53,20 +53,23 @@ both-ask = stepped one-asks 3 box-3-stands (vote-requests box-3-stands)
 both-reached : Goes 7 (built 7) both-ask
 unfolding opens
 both-reached =
-    goes (goes stays (steps 1 refl times-out box-1-stands (vote-requests box-1-stands) refl))
-    (steps 3 refl times-out box-3-stands (vote-requests box-3-stands) refl)
+    goes (goes stays (steps 1 refl times-out tt box-1-stands (vote-requests box-1-stands) refl))
+    (steps 3 refl times-out tt box-3-stands (vote-requests box-3-stands) refl)
 
 -- box 2's yes to box 1
 abbrev yea : Message
 yea = vote-answer 2 1 1 1
 
 -- box 1's request has come to it
-asked-by-1 : Event (both-ask .sent)
-unfolding opens
-asked-by-1 = receives (text request) (List·Memᴰ·tail (List·Memᴰ·tail (List·Memᴰ·head refl)))
+abbrev asked-by-1 : Event
+asked-by-1 = receives (text request)
 
-says-yes-to-1 : outcome asked-by-1 (both-ask .seat 2 .now) ≡ done box-2-votes (yea ∷ [])
-unfolding opens asked-by-1
+comes-to-2 : Comes (both-ask .sent) asked-by-1
+unfolding opens
+comes-to-2 = List·Memᴰ·tail (List·Memᴰ·tail (List·Memᴰ·head refl))
+
+says-yes-to-1 : step asked-by-1 (both-ask .seat 2 .now) ≡ done box-2-votes (yea ∷ [])
+unfolding opens
 says-yes-to-1 = arrives (fresh 2 7) box-2-votes request (yea ∷ []) refl (omega arith) refl
 
 -- ---- power fails
@@ -89,7 +92,7 @@ back ms = seated both-ask 2 (record { now = fresh 2 7; disk = torn; place = both
 -- **and its yes has not left:** what was sent is what was sent before.
 pub torn-silent : (b : Site) × Happens 7 both-ask b × (b .sent ≡ both-ask .sent)
 unfolding opens
-torn-silent = (back [], fails 2 refl asked-by-1 box-2-votes (yea ∷ []) says-yes-to-1 0 (fresh 2 7) (both-ask .seat 2 .place) comes-back, refl)
+torn-silent = (back [], fails 2 refl asked-by-1 comes-to-2 box-2-votes (yea ∷ []) says-yes-to-1 0 (fresh 2 7) (both-ask .seat 2 .place) comes-back, refl)
 
 -- ---- had it left
 
@@ -117,22 +120,23 @@ leak-run =
     goes
     (goes
     (goes stays
-    (steps 2 refl (receives (text (vote-request 3 2 1 0 0)) (List·Memᴰ·tail (List·Memᴰ·tail (List·Memᴰ·head refl)))) box-2-again (vote-answer 2 3 1 1 ∷ [])
+    (steps 2 refl (receives (text (vote-request 3 2 1 0 0))) (List·Memᴰ·tail (List·Memᴰ·tail (List·Memᴰ·head refl))) box-2-again (vote-answer 2 3 1 1 ∷ [])
     (arrives (fresh 2 7) box-2-again (vote-request 3 2 1 0 0) (vote-answer 2 3 1 1 ∷ []) refl (omega arith) refl)))
-    (steps 3 refl (receives (text (vote-answer 2 3 1 1)) (List·Memᴰ·head refl)) box-3-leads (appends box-3-leads)
+    (steps 3 refl (receives (text (vote-answer 2 3 1 1))) (List·Memᴰ·head refl) box-3-leads (appends box-3-leads)
     (arrives box-3-stands box-3-leads (vote-answer 2 3 1 1) (appends box-3-leads) refl (omega arith) refl)))
-    (steps 1 refl (receives (text yea) (Memᴰ·append-right (frames (appends box-3-leads)) (List·Memᴰ·tail (List·Memᴰ·head refl)))) box-1-leads (appends box-1-leads)
+    (steps 1 refl (receives (text yea)) (Memᴰ·append-right (frames (appends box-3-leads)) (List·Memᴰ·tail (List·Memᴰ·head refl))) box-1-leads (appends box-1-leads)
     (arrives box-1-stands box-1-leads yea (appends box-1-leads) refl (omega arith) refl))
 
 -- **Where messages of a torn step leave, "no term has two leaders" is false.**
-pub leaks : ((a b : Site) → Goes 7 (built 7) a → (i : ℕ) → is-membership i 7 ≡ true → (e : Event (a .sent)) (t : State) (messages : List Message)
-    → outcome e (a .seat i .now) ≡ done t messages → (k : ℕ) (u : State) (n : ℕ)
+pub leaks : ((a b : Site) → Goes 7 (built 7) a → (i : ℕ) → is-membership i 7 ≡ true → (e : Event) → Comes (a .sent) e
+    → (t : State) (messages : List Message) → step e (a .seat i .now) ≡ done t messages → (k : ℕ) (u : State) (n : ℕ)
     → opening i (written (a .seat i) (take k (journaled (a .seat i .now) t))) ≡ opened u n
     → Goes 7 (seated a i (record { now = u; disk = written (a .seat i) (take k (journaled (a .seat i .now) t)); place = n }) messages) b
     → (i j term : ℕ) → Leads (b .seat i .now) term → Leads (b .seat j .now) term → i ≡ j) → ⊥
 unfolding opens
 leaks claim =
     let same : _≡_ {A = ℕ} 1 3 =
-    claim both-ask both-lead both-reached 2 refl asked-by-1 box-2-votes (yea ∷ []) says-yes-to-1 0 (fresh 2 7) (both-ask .seat 2 .place) comes-back leak-run 1 3 1
+    claim both-ask both-lead both-reached 2 refl asked-by-1 comes-to-2 box-2-votes (yea ∷ []) says-yes-to-1 0 (fresh 2 7) (both-ask .seat 2 .place) comes-back
+    leak-run 1 3 1
     (record { role = refl; in-term = refl }) (record { role = refl; in-term = refl }) in
     omega arith

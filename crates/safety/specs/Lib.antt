@@ -1,5 +1,6 @@
 -- Demand 3. The pages that are signed: Park (a run of records), Disks (a run with the bytes on the disks), Runs (both under one name, and the book)
--- and Demand3 (what is claimed of every run, and that it holds). The rest is proof, in the order in which it is read:
+-- and Demand3 (what is claimed of every run, and that it holds). Split says how what a call hands over is what Park calls sent. The rest is proof,
+-- in the order in which it is read:
 -- Carried, what ties a park to its history (crate `history`); Sent to CarriedRun, that it is carried along every run: what is sent and kept in any
 -- case (Sent, Proper), how a move may end (Endings), and that each ending keeps what is carried (Grown to Carry);
 -- OneLeader to NoAlarms, what follows for the boxes of a park; HandsOut to BookRun, that what is handed out is in the book;
@@ -7,6 +8,7 @@
 -- Last, runs that are shown: a leader (Elects), an order that is committed and handed out (Commits), a second leader (Succeeds), and what would
 -- happen if a torn step's messages left (Leaks). They also show false what three of the must-fail edits claim.
 pub mod Park
+pub mod Split
 pub mod Disks
 pub mod Runs
 pub mod Demand3

@@ -10,9 +10,12 @@ use Rattle.frames.specs.Message.{Message}
 use Rattle.raft.specs.Record.{State}
 use Rattle.raft.specs.RecordLaws.{Good, member-facts}
 use Rattle.raft.specs.SendLaws.{All}
-use Rattle.raft.specs.Receive.{taking, taken, vote-answer-to, following, append-answer-to}
+use Rattle.raft.specs.AnyMessage.{taking, taken}
+use Rattle.raft.specs.VoteRequest.{vote-answer-to}
+use Rattle.raft.specs.Append.{following, append-answer-to}
 use Rattle.raft.specs.ReceiveLaws.{taken-higher, taken-same, good-taking}
-use Rattle.journal.specs.Opening.{stored, restarted}
+use Rattle.journal.specs.Opening.{restarted}
+use Rattle.history.specs.InForce.{fixed}
 use Rattle.history.specs.History.{History, Facts}
 use Rattle.history.specs.Handed.{hands-nothing, hands-higher}
 use Rattle.history.specs.Put.{put-same}
@@ -25,17 +28,17 @@ use Rattle.safety.specs.Grown.{Grown, grown-self, grown-trans, raised-gr
 
 -- What is known of a box and its history before a move,
 pub record Known (h : History) (s : State) : Type 0 where
-  pub facts : Facts (s .members) h
+  pub facts : Facts (fixed (s .members)) h
   pub whole : Good s
   pub kept : Kept h s
 
 -- and behind it, box i having moved: a history that has grown by its doing, in which it is kept and of which its messages tell.
 pub record Next (mask i : ℕ) (h : History) (t : State) (messages : List Message) : Type 1 where
   pub history : History
-  pub facts : Facts mask history
+  pub facts : Facts (fixed mask) history
   pub grown : Grown i h history
   pub kept : Kept history t
-  pub tells : All (Tells mask history) messages
+  pub tells : All (Tells (fixed mask) history) messages
 
 -- The membership is a mask of seven bits.
 pub known-small : {h : History} {s : State} → Known h s → s .members < 128
@@ -47,37 +50,37 @@ next-behind g n =
     record { history = n .history; facts = n .facts; grown = grown-trans g (n .grown); kept = n .kept; tells = n .tells }
 
 -- A move that adds nothing to the history.
-pub next-same : {h : History} {s t : State} {ms : List Message} → Known h s → Kept h t → All (Tells (s .members) h) ms
+pub next-same : {h : History} {s t : State} {ms : List Message} → Known h s → Kept h t → All (Tells (fixed (s .members)) h) ms
     → Next (s .members) (s .me) h t ms
 next-same {h} {s} k o a = record { history = h; facts = k .facts; grown = grown-self (s .me) h; kept = o; tells = a }
 
 -- A no to a vote request tells nothing,
-pub vote-no-tells : (mask : ℕ) (h : History) (t : State) (to : ℕ) → All (Tells mask h) (vote-answer-to t to false ∷ [])
+pub vote-no-tells : (mask : ℕ) (h : History) (t : State) (to : ℕ) → All (Tells (fixed mask) h) (vote-answer-to t to false ∷ [])
 unfolding All Tells
 vote-no-tells mask h t to = (λ e. absurd (omega arith), tt)
 
 -- nor does a no to an append
-pub append-no-tells : (mask : ℕ) (h : History) (t : State) (to : ℕ) → All (Tells mask h) (append-answer-to t to 0 false ∷ [])
+pub append-no-tells : (mask : ℕ) (h : History) (t : State) (to : ℕ) → All (Tells (fixed mask) h) (append-answer-to t to 0 false ∷ [])
 unfolding All Tells
 append-no-tells mask h t to = (λ e. absurd (omega arith), tt)
 
 -- **A restart** keeps term, vote and log; it hands out nothing, and neither stands nor leads.
 pub restart-next : {h : History} {s : State} → Known h s → Next (s .members) (s .me) h (restarted s) []
-unfolding restarted stored All
+unfolding restarted All
 restart-next {h} {s} k =
     next-same k
     (record {
       term = k .kept .term;
       log = k .kept .log;
       vote = k .kept .vote;
-      hands = hands-nothing (s .members) h (s .term) (s .log);
+      hands = hands-nothing (fixed (s .members)) h (s .term) (h .log (s .me));
       stands = λ r. absurd (omega arith);
       leads = λ r. absurd (omega arith);
     })
     tt
 
 -- A box that follows neither stands nor leads.
-pub following-next : {h : History} {s : State} {ms : List Message} → Known h s → All (Tells (s .members) h) ms
+pub following-next : {h : History} {s : State} {ms : List Message} → Known h s → All (Tells (fixed (s .members)) h) ms
     → Next (s .members) (s .me) h (following s) ms
 unfolding following
 following-next k a =
@@ -105,7 +108,7 @@ taking-known {h} {s} term l k =
         term = put-same (h .term) (s .me) term;
         log = o .log;
         vote = λ d v. absurd (omega (arith, o .term, k .facts .voted-reached (s .me) term d v));
-        hands = hands-higher (hands-later (known-small k) (k .facts) (raised-later (s .me) term h up) (o .hands)) term (omega arith);
+        hands = hands-higher (hands-later (k .facts) (raised-later (s .me) term h up) (o .hands)) term (omega arith);
         stands = λ r. absurd (omega arith);
         leads = λ r. absurd (omega arith);
       };

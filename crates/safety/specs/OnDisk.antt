@@ -1,12 +1,13 @@
 -- Demand 3 over runs with disks, power failing at any byte: what is proved of a park's run holds of a site's. Assumes nothing.
 use Prim.Native.Nat.{ℕ, _≤_, _<_}
-use mathlib.Core.Path.{_≡_, _∙_}
+use mathlib.Core.Path.{_≡_}
 use Rattle.raft.specs.Record.{handed-out}
-use Rattle.raft.specs.Step.{refuse}
+use Rattle.raft.specs.Outcome.{refuse}
+use Rattle.raft.specs.Event.{Event, step}
 use Rattle.history.specs.Begins.{Begins}
-use Rattle.safety.specs.Park.{start, Event, outcome, Leads}
+use Rattle.safety.specs.Park.{start, Comes, Leads}
 use Rattle.safety.specs.Disks.{Site, built, Goes}
-use Rattle.safety.specs.DisksLaws.{wider, wider-same, built-mirrors, RunsOn, goes-on}
+use Rattle.safety.specs.DisksLaws.{wider, built-mirrors, RunsOn, goes-on}
 use Rattle.safety.specs.OneLeader.{one-leader}
 use Rattle.safety.specs.NoAlarms.{no-alarm}
 use Rattle.safety.specs.OneBook.{OneBegins, handed-agree, later-leader-holds, earlier-leader-holds}
@@ -47,9 +48,8 @@ module _ (mask : ℕ) (a b : Site) (r : Goes mask (built mask) a) (u : Goes mask
       (rw (then-on .mirrors .same j) at l))
 
 -- **Alarms 6, 7 and 8 never sound.**
-pub site-no-alarm : (mask : ℕ) (a : Site) → Goes mask (built mask) a → (i : ℕ) (e : Event (a .sent)) (n : ℕ) → outcome e (a .seat i .now) ≡ refuse n
-    → (n ≡ 6 → ⊥) × (n ≡ 7 → ⊥) × (n ≡ 8 → ⊥)
-site-no-alarm mask a r i e n o =
+pub site-no-alarm : (mask : ℕ) (a : Site) → Goes mask (built mask) a → (i : ℕ) (e : Event) → Comes (a .sent) e → (n : ℕ)
+    → step e (a .seat i .now) ≡ refuse n → (n ≡ 6 → ⊥) × (n ≡ 7 → ⊥) × (n ≡ 8 → ⊥)
+site-no-alarm mask a r i e c n o =
     let now = goes-on mask _ (built-mirrors mask) r in
-    no-alarm mask (now .park) (now .run) i (wider (now .mirrors .known) e) n
-    (wider-same (now .mirrors .known) e (now .park .box i) ∙ (rw (← now .mirrors .same i) o))
+    no-alarm mask (now .park) (now .run) i e (wider (now .mirrors .known) e c) n (rw (← now .mirrors .same i) o)

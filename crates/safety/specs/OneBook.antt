@@ -1,13 +1,13 @@
 -- What follows for the boxes of a run from the history that is carried along it: what is handed out makes one book, and every leader holds it.
 -- Assumes nothing.
 use Prim.Native.Nat.{ℕ, _≤_, _<_}
-use native.Mathlib.Decide.{decLt}
 use native.Mathlib.Omega.{arith}
-use mathlib.Core.Path.{_≡_}
+use mathlib.Core.Path.{_≡_, _∙_}
 use mathlib.Core.List.{List}
-use mathlib.Core.Logic.{_⊎_, inl}
+use mathlib.Core.Logic.{_⊎_}
 use Rattle.frames.specs.declared.Entry.{Entry}
-use Rattle.raft.specs.Record.{fresh, handed-out}
+use Rattle.raft.specs.Record.{handed-out}
+use Rattle.history.specs.InForce.{fixed}
 use Rattle.history.specs.Begins.{Begins, nothing-begins, begins-trans}
 use Rattle.history.specs.History.{History, Won}
 use Rattle.history.specs.LeaderComplete.{leader-complete}
@@ -15,7 +15,7 @@ use Rattle.history.specs.Book.{Covered, nothing, written, sender-holds, one-boo
 use Rattle.history.specs.Steps.{fresh-park}
 use Rattle.history.specs.Later.{covered-later}
 use Rattle.safety.specs.Park.{Park, start, Run, run-both, Reached, Leads}
-use Rattle.safety.specs.Proper.{reached-proper, no-member, leads-small}
+use Rattle.safety.specs.Proper.{reached-proper}
 use Rattle.safety.specs.Carried.{Carried}
 use Rattle.safety.specs.CarriedRun.{Onward, run-carried, reached-carried}
 
@@ -28,15 +28,15 @@ pub record TermLog (h : History) (term : ℕ) (log : List Entry) : Type 0 where
 
 module _ (mask : ℕ) {h : History} {p : Park} (r : Reached mask p) (c : Carried mask h p) where
   -- What a box hands out is covered, by a term that it has reached,
-  pub box-covered : (i : ℕ) → Covered mask h (p .box i .term) (handed-out (p .box i))
+  pub box-covered : (i : ℕ) → Covered (fixed mask) h (p .box i .term) (handed-out (p .box i))
   unfolding handed-out
-  box-covered i = rw (reached-proper mask p r i .ours) at (c .kept i .hands .covered)
+  box-covered i = rw (reached-proper mask p r i .ours, c .kept i .log) at (c .kept i .hands .covered)
 
   -- and a box that leads has won its term, of which its log is the log.
   pub box-leads : (i term : ℕ) → Leads (p .box i) term → TermLog h term (p .box i .log)
   box-leads i term l =
       let x = c .kept i .leads (l .role) in
-      rw (← l .in-term) (record { won = record { box = p .box i .me; start = x .start; has = x .won }; same = x .log })
+      rw (← l .in-term) (record { won = record { box = p .box i .me; start = x .start; has = x .won }; same = x .log ∙ c .kept i .log })
 
 -- ---- two moments of a run
 
@@ -53,25 +53,18 @@ module _ (mask : ℕ) (p q : Park) (r : Reached mask p) (u : Run mask p q) where
   then-on = run-carried mask r (now .carried) u
 
   -- what a box handed out at the first is covered at the second
-  still-covered : mask < 128 → (i : ℕ) → Covered mask (then-on .history) (p .box i .term) (handed-out (p .box i))
-  still-covered small i = covered-later small (now .carried .facts) (then-on .later) (box-covered mask r (now .carried) i)
+  still-covered : (i : ℕ) → Covered (fixed mask) (then-on .history) (p .box i .term) (handed-out (p .box i))
+  still-covered i = covered-later (now .carried .facts) (then-on .later) (box-covered mask r (now .carried) i)
 
   -- **What any two boxes hand out is of one book.**
   pub handed-agree : (i j : ℕ) → OneBegins (handed-out (p .box i)) (handed-out (q .box j))
-  unfolding start fresh handed-out
-  handed-agree i j = go (decLt mask 128)
-    where
-      go : Dec (mask < 128) → OneBegins (handed-out (p .box i)) (handed-out (q .box j))
-      go (yes small) =
-          one-book small (then-on .carried .facts) (still-covered small i) (box-covered mask (run-both r u) (then-on .carried) j)
-      go (no n) = rw (no-member mask n r) (inl (nothing-begins _))
+  handed-agree i j = one-book (then-on .carried .facts) (still-covered i) (box-covered mask (run-both r u) (then-on .carried) j)
 
   -- **A leader holds what any box has handed out before, in a term up to its own.**
   pub later-leader-holds : (i j term : ℕ) → p .box i .term ≤ term → Leads (q .box j) term → Begins (handed-out (p .box i)) (q .box j .log)
   later-leader-holds i j term l b =
-      let small = leads-small mask q (run-both r u) j term b in
       let led = box-leads mask (run-both r u) (then-on .carried) j term b in
-      rw (led .same) at (sender-holds small (then-on .carried .facts) (still-covered small i) term (led .won) l)
+      rw (led .same) at (sender-holds (then-on .carried .facts) (still-covered i) term (led .won) l)
 
   -- **A leader held already what any box hands out later, in a term below its own.**
   pub earlier-leader-holds : (i j term : ℕ) → Leads (p .box i) term → q .box j .term < term → Begins (handed-out (q .box j)) (p .box i .log)
@@ -79,13 +72,10 @@ module _ (mask : ℕ) (p q : Park) (r : Reached mask p) (u : Run mask p q) where
       let led = box-leads mask r (now .carried) i term b in
       rw (led .same) at (go (led .won) (box-covered mask (run-both r u) (then-on .carried) j))
     where
-      small : mask < 128
-      small = leads-small mask p r i term b
-
-      go : Won (now .history .leaders) term → Covered mask (then-on .history) (q .box j .term) (handed-out (q .box j))
+      go : Won (now .history .leaders) term → Covered (fixed mask) (then-on .history) (q .box j .term) (handed-out (q .box j))
           → Begins (handed-out (q .box j)) (now .history .leaders .log term)
       go w (nothing e) = rw e (nothing-begins _)
       go w (written m a x) =
           let has = then-on .later .leaders .won term (w .box) (w .start) (w .has) in
-          begins-trans x (begins-trans (leader-complete small (then-on .carried .facts) m term (w .box) (w .start) (omega arith) has)
+          begins-trans x (begins-trans (leader-complete (then-on .carried .facts) term (w .box) (w .start) has .holds m (omega arith))
           (now .carried .facts .leading term (w .box) (w .start) (w .has) .begins))

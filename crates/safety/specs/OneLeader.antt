@@ -2,7 +2,7 @@
 use Prim.Native.Nat.{ℕ}
 use mathlib.Core.Path.{_≡_, sym, _∙_}
 use Rattle.safety.specs.Park.{Park, Run, run-both, Reached, Leads}
-use Rattle.safety.specs.Proper.{reached-proper, leads-small}
+use Rattle.safety.specs.Proper.{reached-proper}
 use Rattle.safety.specs.CarriedRun.{run-carried, reached-carried}
 
 -- **No term has two leaders in a run:** a box that leads a term now, and one that leads the same term at any later moment, are the same box. So no
@@ -15,6 +15,6 @@ one-leader mask p q r u i j term a b =
     let x = now .carried .kept i .leads (a .role) in
     let y = next .carried .kept j .leads (b .role) in
     let same =
-    Rattle.history.specs.Book.one-leader (leads-small mask p r i term a) (next .carried .facts) term (p .box i .me) (q .box j .me) (x .start) (y .start)
+    next .carried .facts .won-once term (p .box i .me) (q .box j .me) (x .start) (y .start)
     (rw (a .in-term) at (next .later .leaders .won _ _ _ (x .won))) (rw (b .in-term) at (y .won)) in
     sym (reached-proper mask p r i .mine) ∙ same ∙ reached-proper mask q (run-both r u) j .mine

@@ -5,8 +5,8 @@ use mathlib.Core.Bool.{true}
 use mathlib.Core.List.{List, [], _∷_, _++_, List·Memᴰ}
 use Rattle.frames.specs.Message.{Message, text}
 use Rattle.raft.specs.Record.{State, leader, fresh, is-membership}
-use Rattle.raft.specs.Step.{Outcome, done, timeout, order, prompt}
-use Rattle.raft.specs.Receive.{receive}
+use Rattle.raft.specs.Outcome.{done}
+use Rattle.raft.specs.Event.{Event, times-out, takes-order, is-prompted, receives, step}
 use Rattle.journal.specs.Opening.{restarted}
 use Rattle.history.specs.Put.{put}
 
@@ -22,20 +22,14 @@ start mask = record { box = λ i. fresh i mask; sent = [] }
 
 -- ---- what may happen to a box
 
--- A timeout, an order of 8 bytes, a prompt, or a frame that was sent in the run. "Messages sent in the run may be lost, repeated, delayed or
--- reordered, not altered": any frame that was ever sent may come to any box at any time, or never; bytes that nobody sent do not come.
-pub data Event (sent : List (List ℕ)) : Type 0 where
-  times-out : Event sent
-  takes-order : (o : ℕ) → o < 18446744073709551616 → Event sent
-  is-prompted : Event sent
-  receives : (bytes : List ℕ) → List·Memᴰ bytes sent → Event sent
-
--- What it comes to: demand 2's own steps.
-unfoldable pub outcome : {sent : List (List ℕ)} → Event sent → State → Outcome
-outcome times-out s = timeout s
-outcome (takes-order o l) s = order o s
-outcome is-prompted s = prompt s
-outcome (receives bytes m) s = receive bytes s
+-- An event that may come: a timeout, an order of 8 bytes, a prompt, or a frame that was sent in the run. "Messages sent in the run may be lost,
+-- repeated, delayed or reordered, not altered": any frame that was ever sent may come to any box at any time, or never; bytes that nobody sent do
+-- not come. (What it comes to is demand 2's own `step`.)
+abbrev pub Comes : List (List ℕ) → Event → Type 0
+Comes sent times-out = Unit {0}
+Comes sent (takes-order o) = o < 18446744073709551616
+Comes sent is-prompted = Unit {0}
+Comes sent (receives bytes) = List·Memᴰ bytes sent
 
 -- ---- what becomes of the park
 
@@ -53,8 +47,8 @@ after p i t messages = record { box = put (p .box) i t; sent = frames messages +
 -- is not whole has not happened, so it is no move either, and what a journal opens with is `restarted`. (`Disks` tells the same run with the bytes
 -- on the disks, and `DisksLaws` shows that it is one of these.)
 pub data Move (mask : ℕ) (p : Park) : Park → Type 0 where
-  steps : (i : ℕ) → is-membership i mask ≡ true → (e : Event (p .sent)) (t : State) (messages : List Message)
-      → outcome e (p .box i) ≡ done t messages → Move mask p (after p i t messages)
+  steps : (i : ℕ) → is-membership i mask ≡ true → (e : Event) → Comes (p .sent) e → (t : State) (messages : List Message)
+      → step e (p .box i) ≡ done t messages → Move mask p (after p i t messages)
   restarts : (i : ℕ) → is-membership i mask ≡ true → Move mask p (after p i (restarted (p .box i)) [])
 
 -- From one park to a later one of the same run.

@@ -9,14 +9,15 @@ use lib.ListN.{length, take}
 use Rattle.frames.specs.Message.{Message}
 use Rattle.raft.specs.Record.{State, is-membership}
 use Rattle.raft.specs.Journal.{journaled}
-use Rattle.raft.specs.Step.{done}
+use Rattle.raft.specs.Outcome.{done}
+use Rattle.raft.specs.Event.{Event, step}
 use Rattle.journal.specs.Opening.{restarted, opened, opening}
 use Rattle.journal.specs.LifeLaws.{life-opens, life-fails}
 use Rattle.history.specs.Put.{put, put-same, put-other, put-all}
-use Rattle.safety.specs.Park.{Park, start, Event, outcome, frames, after, steps, restarts, stays, moves, Reached}
+use Rattle.safety.specs.Park.{Park, start, Comes, frames, after, steps, restarts, stays, moves, Reached}
 use Rattle.safety.specs.Proper.{event-steps}
 use Rattle.safety.specs.Disks.{Seat, Site, built, written, seated, Happens, Goes}
-use Rattle.safety.specs.DisksLaws.{Among, wider, wider-same, among-more, built-mirrors, goes-on}
+use Rattle.safety.specs.DisksLaws.{Among, wider, among-more, built-mirrors, goes-on}
 
 -- A site that has run, with the park's records, and all that was sent in the park.
 pub record Shown (mask : ℕ) (p : Park) : Type 0 where
@@ -39,10 +40,8 @@ module _ (mask : ℕ) (p : Park) (x : Shown mask p) (i : ℕ) (m : is-membership
       }
 
   -- A step writes its line,
-  step-shown : (e : Event (p .sent)) (t : State) (ms : List Message) → outcome e (p .box i) ≡ done t ms → Shown mask (after p i t ms)
-  step-shown e t ms o =
-      seat-shown _ t ms refl
-      (Happens.steps i m (wider (x .known) e) t ms (wider-same (x .known) e (x .site .seat i .now) ∙ (rw (x .same i) o)))
+  step-shown : (e : Event) → Comes (p .sent) e → (t : State) (ms : List Message) → step e (p .box i) ≡ done t ms → Shown mask (after p i t ms)
+  step-shown e c t ms o = seat-shown _ t ms refl (Happens.steps i m e (wider (x .known) e c) t ms (rw (x .same i) o))
 
   -- and a restart opens the disk, which opens.
   restart-shown : Shown mask (after p i (restarted (p .box i)) [])
@@ -54,16 +53,16 @@ module _ (mask : ℕ) (p : Park) (x : Shown mask p) (i : ℕ) (m : is-membership
 pub shown : (mask : ℕ) (p : Park) → Reached mask p → Shown mask p
 unfolding start built
 shown mask p stays = record { site = built mask; run = Goes.stays; same = λ i. refl; known = λ bytes m. m }
-shown mask p (moves {q = q} r (steps i m e t ms o)) = step-shown mask q (shown mask q r) i m e t ms o
+shown mask p (moves {q = q} r (steps i m e c t ms o)) = step-shown mask q (shown mask q r) i m e c t ms o
 shown mask p (moves {q = q} r (restarts i m)) = restart-shown mask q (shown mask q r) i m
 
 -- **And a box comes back from power that failed at any byte of any step's line:** what `fails` asks of the opening is always so.
-pub always-opens : (mask : ℕ) (a : Site) → Goes mask (built mask) a → (i : ℕ) → is-membership i mask ≡ true → (e : Event (a .sent)) (t : State)
-    (messages : List Message) → outcome e (a .seat i .now) ≡ done t messages → (k : ℕ)
+pub always-opens : (mask : ℕ) (a : Site) → Goes mask (built mask) a → (i : ℕ) → is-membership i mask ≡ true → (e : Event) → Comes (a .sent) e
+    → (t : State) (messages : List Message) → step e (a .seat i .now) ≡ done t messages → (k : ℕ)
     → (u : State) × (n : ℕ) × (opening i (written (a .seat i) (take k (journaled (a .seat i .now) t))) ≡ opened u n)
-always-opens mask a g i m e t ms o k =
+always-opens mask a g i m e c t ms o k =
     let lives = goes-on mask _ (built-mirrors mask) g .mirrors .lives i m in
-    go (life-fails i mask _ t _ _ lives (event-steps (a .sent) (a .seat i .now) e t ms o) k)
+    go (life-fails i mask _ t _ _ lives (event-steps (a .sent) (a .seat i .now) e c t ms o) k)
   where
     torn : List ℕ
     torn = written (a .seat i) (take k (journaled (a .seat i .now) t))

@@ -12,7 +12,7 @@ use Rattle.frames.specs.Reading.{Reading, frame, refused, reading}
 use Rattle.frames.specs.OneSpelling.{frame-exactly}
 use Rattle.raft.specs.Record.{State, is-other}
 use Rattle.raft.specs.CommitLaws.{by-test}
-use Rattle.raft.specs.Step.{Outcome, refuse}
+use Rattle.raft.specs.Outcome.{Outcome, refuse}
 use Rattle.raft.specs.SendLaws.{All}
 use Rattle.raft.specs.Receive.{deliver, sender, receiver, arrive, arrive-read, receive, is-for}
 use Rattle.raft.specs.ReceiveLaws.{Arrives}

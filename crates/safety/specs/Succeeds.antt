@@ -8,9 +8,13 @@ use Rattle.frames.specs.Message.{Message, vote-request, vote-answer, text}
 use Rattle.raft.specs.Record.{State, fresh, handed-out}
 use Rattle.raft.specs.Commit.{settle}
 use Rattle.raft.specs.Sends.{vote-requests, appends}
-use Rattle.raft.specs.Step.{standing, leading, won, timeout}
-use Rattle.raft.specs.Receive.{taking, grants, says-yes, voting, asked, on-vote-request, adding, counted, counts, on-vote-answer}
-use Rattle.safety.specs.Park.{Park, times-out, receives, after, Move, steps, Run, stays, moves, run-both, Reached, Leads}
+use Rattle.raft.specs.Timeout.{standing}
+use Rattle.raft.specs.Winning.{leading}
+use Rattle.raft.specs.AnyMessage.{taking}
+use Rattle.raft.specs.VoteRequest.{voting}
+use Rattle.raft.specs.VoteAnswer.{adding}
+use Rattle.raft.specs.Event.{times-out, receives}
+use Rattle.safety.specs.Park.{Park, after, Move, steps, Run, stays, moves, run-both, Reached, Leads}
 use Rattle.safety.specs.Elects.{arrives, third-reached}
 use Rattle.safety.specs.Commits.{opens, entry, joined-up, sixth, commit-run}
 
@@ -22,8 +26,8 @@ abbrev two-asks : Park
 two-asks = after sixth 2 box-2-stands (vote-requests box-2-stands)
 
 to-two-asks : Move 7 sixth two-asks
-unfolding opens timeout vote-requests
-to-two-asks = steps 2 refl times-out box-2-stands (vote-requests box-2-stands) refl
+unfolding opens
+to-two-asks = steps 2 refl times-out tt box-2-stands (vote-requests box-2-stands) refl
 
 -- box 3 gives it its vote,
 abbrev request-2 : Message
@@ -36,9 +40,9 @@ abbrev three-votes : Park
 three-votes = after two-asks 3 box-3-votes (vote-answer 3 2 2 1 ∷ [])
 
 to-three-votes : Move 7 two-asks three-votes
-unfolding opens vote-requests on-vote-request asked says-yes grants
+unfolding opens
 to-three-votes =
-    steps 3 refl (receives (text request-2) (List·Memᴰ·tail (List·Memᴰ·head refl))) box-3-votes (vote-answer 3 2 2 1 ∷ [])
+    steps 3 refl (receives (text request-2)) (List·Memᴰ·tail (List·Memᴰ·head refl)) box-3-votes (vote-answer 3 2 2 1 ∷ [])
     (arrives (fresh 3 7) box-3-votes request-2 (vote-answer 3 2 2 1 ∷ []) refl (omega arith) refl)
 
 -- and box 2 leads.
@@ -49,9 +53,9 @@ abbrev pub two-leads : Park
 two-leads = after three-votes 2 box-2-leads (appends box-2-leads)
 
 to-two-leads : Move 7 three-votes two-leads
-unfolding opens on-vote-answer counts counted won
+unfolding opens
 to-two-leads =
-    steps 2 refl (receives (text (vote-answer 3 2 2 1)) (List·Memᴰ·head refl)) box-2-leads (appends box-2-leads)
+    steps 2 refl (receives (text (vote-answer 3 2 2 1))) (List·Memᴰ·head refl) box-2-leads (appends box-2-leads)
     (arrives box-2-stands box-2-leads (vote-answer 3 2 2 1) (appends box-2-leads) refl (omega arith) refl)
 
 -- the run in which it comes to lead

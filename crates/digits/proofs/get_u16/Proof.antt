@@ -10,7 +10,9 @@ get-u8-requires : tie.Need-get-u8-requires
 get-u8-requires c κs = search needs
 
 add-get-u8 : tie.Need-add-get-u8
-add-get-u8 c = omega (arith, run-le (c .before .before .args .s .now))
+add-get-u8 high =
+    let entered = high .before .before in
+    omega (arith, run-le (entered .args .s .now))
 
 get-u8-requires-2 : tie.Need-get-u8-requires-2
 get-u8-requires-2 c κs = search needs
@@ -28,9 +30,11 @@ add-result : tie.Need-add-result
 add-result c = search needs
 
 returns : tie.Need-returns
-returns c =
-    rw (c .before .get-u8 .ensures, c .get-u82 .ensures)
-    (sym (field-halves (c .before .before .before .args .s .now) (c .before .before .before .args .at) 1 (omega (arith, run-le (c .before .before .before .args .s .now)))))
+returns low =
+    let high = low .before in
+    let entered = high .before .before in
+    let s = entered .args .s .now in
+    rw (high .get-u8 .ensures, low .get-u82 .ensures) (sym (field-halves s (entered .args .at) 1 (omega (arith, run-le s))))
 
 pub get-u16-spec : {M : Type 1} → statement M
 get-u16-spec =

@@ -25,8 +25,11 @@ same-length c = search needs
 
 returns : tie.Need-returns
 returns c =
-    stored-halves 1 (c .before .before .before .before .before .before .before .before .before .args .room .now) (c .before .before .before .before .before .before .before .before .before .args .at) (c .before .before .before .before .before .before .before .before .before .args .n) (omega arith)
-    (c .before .before .before .before .before .before .spell-u8 .ensures) (c .before .before .spell-u82 .ensures)
+    let low = c .before .before in
+    let high = low .before .before .before .before in
+    let entered = high .before .before .before in
+    stored-halves 1 (entered .args .room .now) (entered .args .at) (entered .args .n) (omega arith)
+    (high .spell-u8 .ensures) (low .spell-u82 .ensures)
 
 pub spell-u16-spec : {M : Type 1} → statement M
 spell-u16-spec =

@@ -25,8 +25,11 @@ same-length c = search needs
 
 returns : tie.Need-returns
 returns c =
-    stored-halves 4 (c .before .before .before .before .before .before .before .before .before .args .room .now) (c .before .before .before .before .before .before .before .before .before .args .at) (c .before .before .before .before .before .before .before .before .before .args .n) (omega arith)
-    (c .before .before .before .before .before .before .spell-u32 .ensures) (c .before .before .spell-u322 .ensures)
+    let low = c .before .before in
+    let high = low .before .before .before .before in
+    let entered = high .before .before .before in
+    stored-halves 4 (entered .args .room .now) (entered .args .at) (entered .args .n) (omega arith)
+    (high .spell-u32 .ensures) (low .spell-u322 .ensures)
 
 pub spell-u64-spec : {M : Type 1} → statement M
 spell-u64-spec =

@@ -34,8 +34,9 @@ same-length c = simp length-set
 returns : tie.Need-returns
 unfolding digit
 returns c =
-    rw (c .before .before .pre .0)
-    (stored-byte (c .before .before .args .room .now) (c .before .before .args .at) (c .before .before .args .n) (c .before .before .fits .n .fits) (omega arith))
+    let entered = c .before .before in
+    rw (entered .pre .sixteen)
+    (stored-byte (entered .args .room .now) (entered .args .at) (entered .args .n) (entered .fits .n .fits) (omega arith))
 
 pub spell-u8-spec : {M : Type 1} → statement M
 spell-u8-spec =

@@ -2,7 +2,7 @@
 use borrow.Author.Needs.{needs}
 use mathlib.Core.Path.{sym, _∙_}
 use borrow.Author.Tests.{not-true, not-false}
-use Rattle.raft.specs.Step.{order}
+use Rattle.raft.specs.Order.{order}
 use Rattle.abi.specs.BoxLaws.{event-none, event-step}
 use Rattle.abi.proofs.boxes.box_order.Statement.{statement}
 use Rattle.abi.proofs.boxes.box_order.Tie as tie

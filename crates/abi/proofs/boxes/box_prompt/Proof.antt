@@ -2,7 +2,7 @@
 use borrow.Author.Needs.{needs}
 use mathlib.Core.Path.{sym, _∙_}
 use borrow.Author.Tests.{not-true, not-false}
-use Rattle.raft.specs.Step.{prompt}
+use Rattle.raft.specs.Prompt.{prompt}
 use Rattle.abi.specs.BoxLaws.{event-none, event-step}
 use Rattle.abi.proofs.boxes.box_prompt.Statement.{statement}
 use Rattle.abi.proofs.boxes.box_prompt.Tie as tie

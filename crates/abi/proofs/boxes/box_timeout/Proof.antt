@@ -2,7 +2,7 @@
 use borrow.Author.Needs.{needs}
 use mathlib.Core.Path.{sym, _∙_}
 use borrow.Author.Tests.{not-true, not-false}
-use Rattle.raft.specs.Step.{timeout}
+use Rattle.raft.specs.Timeout.{timeout}
 use Rattle.abi.specs.BoxLaws.{event-none, event-step}
 use Rattle.abi.proofs.boxes.box_timeout.Statement.{statement}
 use Rattle.abi.proofs.boxes.box_timeout.Tie as tie

@@ -6,7 +6,7 @@ use Prim.Native.Nat.{_+_, _-_, _≤_}
 use lib.ListN.{length, drop, length-take, length-drop}
 use Rattle.frames.specs.Limits.{log-limit}
 use Rattle.raft.specs.Record.{good}
-use Rattle.node.specs.Calls.{state-of}
+use Rattle.record.specs.Calls.{state-of}
 use Rattle.journal.specs.Lines.{lines}
 use Rattle.opening.specs.CodeLaws.{first-most}
 use Rattle.console.specs.Calls.{tell, telling}

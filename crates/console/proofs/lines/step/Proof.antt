@@ -2,9 +2,11 @@
 use borrow.Author.Needs.{needs}
 use mathlib.Core.Path.{sym, _∙_}
 use borrow.Author.Tests.{not-true, not-false}
-use Rattle.raft.specs.Step.{timeout, order, prompt}
+use Rattle.raft.specs.Timeout.{timeout}
+use Rattle.raft.specs.Order.{order}
+use Rattle.raft.specs.Prompt.{prompt}
 use Rattle.raft.specs.Receive.{receive}
-use Rattle.node.specs.CallLaws.{call-bad, call-good}
+use Rattle.record.specs.CallLaws.{call-bad, call-good}
 use Rattle.console.specs.Session.{order-in, event-of}
 use Rattle.console.specs.LineLaws.{asks-timeout, asks-prompt, asks-order, asks-receive}
 use Rattle.console.proofs.lines.step.Statement.{statement}

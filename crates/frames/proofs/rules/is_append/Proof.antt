@@ -38,7 +38,19 @@ in-order-requires : tie.Need-in-order-requires
 in-order-requires c κs = search needs
 
 returns : tie.Need-returns
-returns c = cc (length-listed (c .before .before .before .before .before .before .before .args .f .entries) 0 (c .before .before .before .before .before .before .before .args .f .count))
+returns ordered =
+    let committed = ordered .before .before in
+    let paired = committed .before in
+    let indexed = paired .before in
+    let started = indexed .before in
+    rw (
+      started .is-start .ensures,
+      indexed .is-index .ensures,
+      paired .is-pair .ensures,
+      committed .is-index2 .ensures,
+      ordered .in-order .ensures,
+      length-listed,
+    )
 
 pub is-append-spec : {M : Type 1} → statement M
 is-append-spec =

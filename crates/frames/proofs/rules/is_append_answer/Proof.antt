@@ -13,7 +13,11 @@ is-index-requires : tie.Need-is-index-requires
 is-index-requires c κs = search needs
 
 returns : tie.Need-returns
-returns c = cc
+returns c =
+    let indexed = c .before .before in
+    let replied = indexed .before in
+    let started = replied .before in
+    rw (started .is-start .ensures, replied .is-reply .ensures, indexed .is-index .ensures)
 
 pub is-append-answer-spec : {M : Type 1} → statement M
 is-append-answer-spec =

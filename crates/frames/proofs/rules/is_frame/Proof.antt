@@ -26,7 +26,10 @@ entries-unused-requires c κs = search needs
 
 returns-2 : tie.Need-returns-2
 unfolding one-frame
-returns-2 c = cc
+returns-2 spared =
+    let unused = spared .before in
+    let obeyed = unused .before in
+    rw (obeyed .obeys .ensures, unused .fields-unused .ensures, spared .entries-unused .ensures)
 
 pub is-frame-spec : {M : Type 1} → statement M
 is-frame-spec =

@@ -10,7 +10,9 @@ is-box-requires-2 : tie.Need-is-box-requires-2
 is-box-requires-2 c κs = search needs
 
 returns : tie.Need-returns
-returns c = cc
+returns second =
+    let first = second .before in
+    rw (first .is-box .ensures, second .is-box2 .ensures)
 
 pub is-start-spec : {M : Type 1} → statement M
 is-start-spec = tie.close (tie.spec is-box-requires is-box-requires-2 returns)

@@ -10,7 +10,9 @@ is-reply-requires : tie.Need-is-reply-requires
 is-reply-requires c κs = search needs
 
 returns : tie.Need-returns
-returns c = cc
+returns replied =
+    let started = replied .before in
+    rw (started .is-start .ensures, replied .is-reply .ensures)
 
 pub is-vote-answer-spec : {M : Type 1} → statement M
 is-vote-answer-spec = tie.close (tie.spec is-start-requires is-reply-requires returns)

@@ -13,7 +13,11 @@ is-pair-requires : tie.Need-is-pair-requires
 is-pair-requires c κs = search needs
 
 returns : tie.Need-returns
-returns c = cc
+returns c =
+    let paired = c .before in
+    let indexed = paired .before in
+    let started = indexed .before in
+    rw (started .is-start .ensures, indexed .is-index .ensures, paired .is-pair .ensures)
 
 pub is-vote-request-spec : {M : Type 1} → statement M
 is-vote-request-spec =

@@ -28,7 +28,11 @@ is-append-answer-requires : tie.Need-is-append-answer-requires
 is-append-answer-requires c κs = search needs
 
 returns-4 : tie.Need-returns-4
-returns-4 c = c .is-append-answer .ensures ∙ ap obeys (sym (kind-4 _ _ _ _ _ (c .before .before .before .if1 .left) (c .before .before .if2 .left) (c .before .if3 .left)))
+returns-4 c =
+    let third = c .before in
+    let second = third .before in
+    let first = second .before in
+    c .is-append-answer .ensures ∙ ap obeys (sym (kind-4 _ _ _ _ _ (first .if1 .left) (second .if2 .left) (third .if3 .left)))
 
 pub obeys-spec : {M : Type 1} → statement M
 obeys-spec =

@@ -2,7 +2,7 @@
 use borrow.Author.Needs.{needs}
 use mathlib.Core.Path.{sym, _∙_}
 use borrow.Author.Tests.{not-true, not-false}
-use Rattle.node.specs.Calls.{handed}
+use Rattle.record.specs.Calls.{handed}
 use Rattle.node.proofs.calls.handed_out.Statement.{statement}
 use Rattle.node.proofs.calls.handed_out.Tie as tie
 

@@ -2,8 +2,8 @@
 use borrow.Author.Needs.{needs}
 use mathlib.Core.Path.{sym, _∙_}
 use borrow.Author.Tests.{not-true, not-false}
-use Rattle.raft.specs.Step.{order}
-use Rattle.node.specs.CallLaws.{call-bad, call-good}
+use Rattle.raft.specs.Order.{order}
+use Rattle.record.specs.CallLaws.{call-bad, call-good}
 use Rattle.node.proofs.calls.order.Statement.{statement}
 use Rattle.node.proofs.calls.order.Tie as tie
 

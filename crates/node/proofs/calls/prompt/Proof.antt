@@ -2,8 +2,8 @@
 use borrow.Author.Needs.{needs}
 use mathlib.Core.Path.{sym, _∙_}
 use borrow.Author.Tests.{not-true, not-false}
-use Rattle.raft.specs.Step.{prompt}
-use Rattle.node.specs.CallLaws.{call-bad, call-good}
+use Rattle.raft.specs.Prompt.{prompt}
+use Rattle.record.specs.CallLaws.{call-bad, call-good}
 use Rattle.node.proofs.calls.prompt.Statement.{statement}
 use Rattle.node.proofs.calls.prompt.Tie as tie
 

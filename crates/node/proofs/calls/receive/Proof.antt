@@ -3,7 +3,7 @@ use borrow.Author.Needs.{needs}
 use mathlib.Core.Path.{sym, _∙_}
 use borrow.Author.Tests.{not-true, not-false}
 use Rattle.raft.specs.Receive.{receive}
-use Rattle.node.specs.CallLaws.{call-bad, call-good}
+use Rattle.record.specs.CallLaws.{call-bad, call-good}
 use Rattle.node.proofs.calls.receive.Statement.{statement}
 use Rattle.node.proofs.calls.receive.Tie as tie
 

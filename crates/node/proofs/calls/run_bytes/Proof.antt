@@ -1,8 +1,8 @@
 -- 1 where the bytes are not one frame; otherwise the message decides.
 use borrow.Author.Needs.{needs}
 use mathlib.Core.Path.{ap, _∙_}
-use Rattle.node.specs.Calls.{state-of, run}
-use Rattle.node.specs.ReceiveCalls.{read-not, read-frame}
+use Rattle.record.specs.Calls.{state-of, run}
+use Rattle.record.specs.ReceiveCalls.{read-not, read-frame}
 use Rattle.node.proofs.calls.run_bytes.Statement.{statement}
 use Rattle.node.proofs.calls.run_bytes.Tie as tie
 

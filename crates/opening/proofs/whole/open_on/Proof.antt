@@ -5,7 +5,7 @@ use mathlib.Core.Path.{_≡_, refl, sym, ap, _∙_}
 use mathlib.Core.List.{[]}
 use lib.ListN.{length, length-take, drop}
 use Rattle.raft.specs.Record.{State, fresh}
-use Rattle.node.specs.Calls.{state-of}
+use Rattle.record.specs.Calls.{state-of}
 use Rattle.journal.specs.Lines.{lines, whole-bytes}
 use Rattle.journal.specs.Opening.{replay}
 use Rattle.frames.specs.Limits.{log-limit}

@@ -5,7 +5,7 @@ use mathlib.Core.Path.{_≡_, refl, sym, ap, _∙_}
 use Prim.Native.Nat.{ℕ, _-_, _+_, _≤_}
 use lib.ListN.{length, take, drop, length-drop}
 use Rattle.frames.specs.Limits.{log-limit}
-use Rattle.node.specs.Calls.{state-of}
+use Rattle.record.specs.Calls.{state-of}
 use Rattle.opening.specs.Calls.{first-line}
 use Rattle.opening.specs.CodeLaws.{first-most}
 use Rattle.opening.specs.ReplayCode.{Goes, line-breaks, line-goes, Stands, stands-first, stands-done, stands-broken, stands-next}

@@ -1,7 +1,7 @@
 -- The test is the definition's own.
 use borrow.Author.Needs.{needs}
-use borrow.Author.Tests.{eq-eqb, ne-eqb, lt-ltb, le-ltb, le-leb, lt-leb}
-use Rattle.raft.specs.Receive.{match-after}
+use borrow.Author.Tests.{eq-eqb, ne-eqb}
+use Rattle.raft.specs.AppendAnswer.{match-after}
 use Rattle.rules.proofs.answers.match_after.Statement.{statement}
 use Rattle.rules.proofs.answers.match_after.Tie as tie
 

@@ -1,7 +1,7 @@
 -- The test is the definition's own.
 use borrow.Author.Needs.{needs}
-use borrow.Author.Tests.{eq-eqb, ne-eqb, lt-ltb, le-ltb, le-leb, lt-leb}
-use Rattle.raft.specs.Receive.{next-heard}
+use borrow.Author.Tests.{eq-eqb, ne-eqb}
+use Rattle.raft.specs.AppendAnswer.{next-heard}
 use Rattle.rules.proofs.answers.next_heard.Statement.{statement}
 use Rattle.rules.proofs.answers.next_heard.Tie as tie
 

@@ -1,9 +1,8 @@
 -- The tests are the definition's own, on the lent entry (`term-there`).
 use borrow.Author.Needs.{needs}
 use native.Mathlib.Omega.{arith}
-use mathlib.Core.Path.{_≡_, refl, sym, ap, _∙_}
-use borrow.Author.Tests.{eq-eqb, ne-eqb, lt-ltb, le-ltb, le-leb, lt-leb}
-use Rattle.raft.specs.Receive.{lacks}
+use borrow.Author.Tests.{le-leb, lt-leb}
+use Rattle.raft.specs.Append.{lacks}
 use Rattle.raft.specs.LentLaws.{length-entries-of, term-there}
 use Rattle.rules.proofs.entries.lacks.Statement.{statement}
 use Rattle.rules.proofs.entries.lacks.Tie as tie
@@ -14,7 +13,11 @@ returns c = λ orders. rw (c .if1 .taken)
 
 returns-2 : tie.Need-returns-2
 unfolding lacks
-returns-2 c = λ orders. rw (le-leb 1 (c .before .before .args .index) (omega arith), length-entries-of, lt-leb (c .before .before .args .index) (c .before .before .args .last) (c .if2 .taken))
+returns-2 c =
+    let entered = c .before .before in
+    let index = entered .args .index in
+    let last = entered .args .last in
+    λ orders. rw (le-leb 1 index (omega arith), length-entries-of, lt-leb index last (c .if2 .taken))
 
 sub-result : tie.Need-sub-result
 sub-result c = search needs
@@ -31,13 +34,14 @@ shared-slice-read-result c = search needs
 returns-3 : tie.Need-returns-3
 unfolding lacks
 returns-3 c =
-    let index = c .before .before .before .args .index in
-    let last = c .before .before .before .args .last in
+    let entered = c .before .before .before in
+    let index = entered .args .index in
+    let last = entered .args .last in
     λ orders. rw (
       le-leb 1 index (omega arith),
       length-entries-of,
       le-leb index last (omega arith),
-      term-there (c .before .before .before .args .terms .now) orders last index (omega arith) (omega arith),
+      term-there (entered .args .terms .now) orders last index (omega arith) (omega arith),
     )
 
 pub lacks-spec : {M : Type 1} → statement M

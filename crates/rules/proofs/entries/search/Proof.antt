@@ -1,19 +1,28 @@
 -- What was passed and what is passing yet make the whole search (`Passed`); it stops where nothing more passes.
 use borrow.Author.Needs.{needs}
 use native.Mathlib.Omega.{arith}
-use Prim.Native.Nat.{_+_, _-_, _≤_}
+use Prim.Native.Nat.{ℕ, _+_, _-_, _≤_}
+use mathlib.Core.List.{List}
+use Rattle.frames.specs.declared.Entry.{Entry}
 use Rattle.rules.specs.SearchLaws.{Passed, passed-first, passed-next, stopped, passing-end, passing-past, passing-differs}
 use Rattle.rules.proofs.entries.search.Statement.{statement}
 use Rattle.rules.proofs.entries.search.Tie as tie
 
+-- The search stands at a place of the log and of what is offered.
+record At (terms : List ℕ) (last index count : ℕ) (entries : List Entry) (at : ℕ) : Type 0 where
+  least : index ≤ at
+  offered : at ≤ index + count
+  held : at ≤ last
+  passed : Passed terms last index entries count at
+
 abbrev Inv-loop : tie.InvT-loop
-Inv-loop terms last index count entries at₀ at = (index ≤ at) × (at ≤ index + count) × (at ≤ last) × Passed terms last index entries count at
+Inv-loop terms last index count entries at₀ at = At terms last index count entries at
 
 abbrev μ-loop : tie.MeasureT-loop
 μ-loop terms last index count entries at₀ at = last - at
 
 loop-holds : tie.Need-loop-holds Inv-loop μ-loop
-loop-holds c = (omega arith, omega arith, omega arith, passed-first _ _ _ _ _)
+loop-holds c = record { least = omega arith; offered = omega arith; held = omega arith; passed = passed-first _ _ _ _ _ }
 
 add-if1 : tie.Need-add-if1 Inv-loop μ-loop
 add-if1 c = search needs
@@ -43,23 +52,40 @@ loop-again : tie.Need-loop-again Inv-loop μ-loop
 loop-again c =
     let turn = c .before .before .before .before in
     let entered = turn .before in
-    (omega arith, omega arith, omega arith, passed-next (entered .args .terms .now) (entered .args .last) (entered .args .index) (entered .args .t4) (entered .args .count) (turn .loop .at) (turn .loop .inv .0) (omega arith) (omega arith) (c .if3 .left) (turn .loop .inv .3))
+    let a = entered .args in
+    let inv = turn .loop .inv in
+    record {
+      least = omega arith;
+      offered = omega arith;
+      held = omega arith;
+      passed =
+          passed-next (a .terms .now) (a .last) (a .index) (a .t4) (a .count) (turn .loop .at) (inv .least) (omega arith) (omega arith)
+          (c .if3 .left) (inv .passed);
+    }
 
 returns : tie.Need-returns Inv-loop μ-loop
 returns c =
-    let entered = c .before .before in
-    (λ orders. stopped (entered .args .terms .now) (entered .args .last) (entered .args .index) (entered .args .t4) (entered .args .count) orders (c .before .loop .at) (c .before .loop .inv .3) (passing-end _ _ _ _ _ _ (omega arith)), omega arith)
+    let turn = c .before in
+    let entered = turn .before in
+    let a = entered .args in
+    let stops = stopped (a .terms .now) (a .last) (a .index) (a .t4) (a .count) in
+    (λ orders. stops orders (turn .loop .at) (turn .loop .inv .passed) (passing-end _ _ _ _ _ _ (omega arith)), omega arith)
 
 returns-2 : tie.Need-returns-2 Inv-loop μ-loop
 returns-2 c =
-    let entered = c .before .before .before in
-    (λ orders. stopped (entered .args .terms .now) (entered .args .last) (entered .args .index) (entered .args .t4) (entered .args .count) orders (c .before .before .loop .at) (c .before .before .loop .inv .3) (passing-past _ _ _ _ _ _ (omega arith)), omega arith)
+    let turn = c .before .before in
+    let entered = turn .before in
+    let a = entered .args in
+    let stops = stopped (a .terms .now) (a .last) (a .index) (a .t4) (a .count) in
+    (λ orders. stops orders (turn .loop .at) (turn .loop .inv .passed) (passing-past _ _ _ _ _ _ (omega arith)), omega arith)
 
 returns-3 : tie.Need-returns-3 Inv-loop μ-loop
 returns-3 c =
     let turn = c .before .before .before .before in
     let entered = turn .before in
-    (λ orders. stopped (entered .args .terms .now) (entered .args .last) (entered .args .index) (entered .args .t4) (entered .args .count) orders (turn .loop .at) (turn .loop .inv .3) (passing-differs _ _ _ _ _ _ (omega arith) (omega arith) (c .if3 .taken)), omega arith)
+    let a = entered .args in
+    let stops = stopped (a .terms .now) (a .last) (a .index) (a .t4) (a .count) in
+    (λ orders. stops orders (turn .loop .at) (turn .loop .inv .passed) (passing-differs _ _ _ _ _ _ (omega arith) (omega arith) (c .if3 .taken)), omega arith)
 
 pub search-spec : {M : Type 1} → statement M
 search-spec =

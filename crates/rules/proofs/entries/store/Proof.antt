@@ -2,7 +2,8 @@
 use borrow.Author.Needs.{needs}
 use native.Mathlib.Omega.{arith}
 use Prim.Native.Nat.{ℕ, _+_, _-_, _≤_}
-use mathlib.Core.Path.{_≡_, refl, sym, ap, _∙_}
+use mathlib.Core.Path.{_≡_, refl, ap, _∙_}
+use mathlib.Core.List.{List}
 use lib.ListN.{length}
 use Rattle.digits.specs.Room.{over}
 use Rattle.frames.specs.declared.Entry.{Entry}
@@ -12,18 +13,32 @@ use Rattle.rules.specs.SearchLaws.{store-none, store-next}
 use Rattle.rules.proofs.entries.store.Statement.{statement}
 use Rattle.rules.proofs.entries.store.Tie as tie
 
+-- The entries from the first up to i are stored, and nothing else.
+record Stored (terms₀ orders₀ : List ℕ) (index first count : ℕ) (entries : List Entry) (terms orders : List ℕ) (i : ℕ) : Type 0 where
+  least : first ≤ i
+  most : i ≤ count
+  terms-long : length terms ≡ length terms₀
+  orders-long : length orders ≡ length orders₀
+  terms-hold : terms ≡ over terms₀ (index + first) (terms-of (listed entries first (i - first)))
+  orders-hold : orders ≡ over orders₀ (index + first) (orders-of (listed entries first (i - first)))
+
 abbrev Inv-loop : tie.InvT-loop
-Inv-loop terms₀ orders₀ index first count entries i₀ terms orders i =
-    (first ≤ i) × (i ≤ count) × (length terms ≡ length terms₀) × (length orders ≡ length orders₀)
-    × (terms ≡ over terms₀ (index + first) (terms-of (listed entries first (i - first))))
-    × (orders ≡ over orders₀ (index + first) (orders-of (listed entries first (i - first))))
+Inv-loop terms₀ orders₀ index first count entries i₀ terms orders i = Stored terms₀ orders₀ index first count entries terms orders i
 
 abbrev μ-loop : tie.MeasureT-loop
 μ-loop terms₀ orders₀ index first count entries i₀ terms orders i = count - i
 
 loop-holds : tie.Need-loop-holds Inv-loop μ-loop
 unfolding terms-of orders-of
-loop-holds c = (omega arith, omega arith, refl, refl, store-none (λ e. e .term) _ _ _ _, store-none (λ e. e .order) _ _ _ _)
+loop-holds c =
+    record {
+      least = omega arith;
+      most = omega arith;
+      terms-long = refl;
+      orders-long = refl;
+      terms-hold = store-none (λ e. e .term) _ _ _ _;
+      orders-hold = store-none (λ e. e .order) _ _ _ _;
+    }
 
 mul-e : tie.Need-mul-e Inv-loop μ-loop
 mul-e c = search needs
@@ -59,14 +74,18 @@ loop-again : tie.Need-loop-again Inv-loop μ-loop
 unfolding terms-of orders-of
 loop-again c =
     let turn = c .before .before in
-    let entered = turn .before in (
-      omega arith,
-      omega arith,
-      search needs,
-      search needs,
-      store-next (λ e. e .term) (entered .args .terms .now) (entered .args .t4) (entered .args .index) (entered .args .first) (turn .loop .i) (turn .loop .inv .0) (omega arith) (turn .loop .inv .4),
-      store-next (λ e. e .order) (entered .args .orders .now) (entered .args .t4) (entered .args .index) (entered .args .first) (turn .loop .i) (turn .loop .inv .0) (omega arith) (turn .loop .inv .5),
-    )
+    let entered = turn .before in
+    let a = entered .args in
+    let i = turn .loop .i in
+    let inv = turn .loop .inv in
+    record {
+      least = omega arith;
+      most = omega arith;
+      terms-long = search needs;
+      orders-long = search needs;
+      terms-hold = store-next (λ e. e .term) (a .terms .now) (a .t4) (a .index) (a .first) i (inv .least) (omega arith) (inv .terms-hold);
+      orders-hold = store-next (λ e. e .order) (a .orders .now) (a .t4) (a .index) (a .first) i (inv .least) (omega arith) (inv .orders-hold);
+    }
 
 same-length : tie.Need-same-length Inv-loop μ-loop
 same-length c = search needs
@@ -78,9 +97,12 @@ returns : tie.Need-returns Inv-loop μ-loop
 returns c =
     let turn = c .before in
     let entered = turn .before in
-    let all : turn .loop .i ≡ entered .args .count = omega arith in (
-      turn .loop .inv .4 ∙ ap (λ (k : ℕ). over (entered .args .terms .now) (entered .args .index + entered .args .first) (terms-of (listed (entered .args .t4) (entered .args .first) (k - entered .args .first)))) all,
-      turn .loop .inv .5 ∙ ap (λ (k : ℕ). over (entered .args .orders .now) (entered .args .index + entered .args .first) (orders-of (listed (entered .args .t4) (entered .args .first) (k - entered .args .first)))) all,
+    let a = entered .args in
+    let inv = turn .loop .inv in
+    let all : turn .loop .i ≡ a .count = omega arith in
+    let at = a .index + a .first in (
+      inv .terms-hold ∙ ap (λ (k : ℕ). over (a .terms .now) at (terms-of (listed (a .t4) (a .first) (k - a .first)))) all,
+      inv .orders-hold ∙ ap (λ (k : ℕ). over (a .orders .now) at (orders-of (listed (a .t4) (a .first) (k - a .first)))) all,
     )
 
 pub store-spec : {M : Type 1} → statement M

@@ -1,7 +1,7 @@
 -- The entry at an index is the lent one (`term-there`).
 use borrow.Author.Needs.{needs}
 use native.Mathlib.Omega.{arith}
-use mathlib.Core.Path.{ap, sym, _∙_}
+use mathlib.Core.Path.{sym}
 use Rattle.raft.specs.LentLaws.{term-there, term-none}
 use Rattle.rules.proofs.entries.term_at.Statement.{statement}
 use Rattle.rules.proofs.entries.term_at.Tie as tie
@@ -22,7 +22,9 @@ shared-slice-read-result : tie.Need-shared-slice-read-result
 shared-slice-read-result c = search needs
 
 returns-2 : tie.Need-returns-2
-returns-2 c = λ orders last h. sym (term-there (c .before .before .args .terms .now) orders last (c .before .before .args .index) (omega arith) h)
+returns-2 c =
+    let entered = c .before .before in
+    λ orders last h. sym (term-there (entered .args .terms .now) orders last (entered .args .index) (omega arith) h)
 
 pub term-at-spec : {M : Type 1} → statement M
 term-at-spec =

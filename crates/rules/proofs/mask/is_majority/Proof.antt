@@ -8,7 +8,9 @@ use Rattle.rules.proofs.mask.is_majority.Statement.{statement}
 use Rattle.rules.proofs.mask.is_majority.Tie as tie
 
 mul-result : tie.Need-mul-result
-mul-result c = omega (arith, ones-le 8 (bitAnd (c .args .agreed) (c .args .members)) (and-lt 8 _ _ (c .fits .agreed .fits) (c .fits .members .fits)))
+mul-result entered =
+    let both = bitAnd (entered .args .agreed) (entered .args .members) in
+    omega (arith, ones-le 8 both (and-lt 8 _ _ (entered .fits .agreed .fits) (entered .fits .members .fits)))
 
 returns : tie.Need-returns
 unfolding majority

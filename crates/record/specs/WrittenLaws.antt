@@ -1,0 +1,269 @@
+-- What is written of a decision is what its outcome leaves: the lent log, the journal line, the messages. Assumes nothing.
+use Prim.Native.Nat.{ℕ, zero, suc, _+_, _-_, _*_, _≤_, _<_}
+use native.Mathlib.Nat.{zero-add, add-zero}
+use native.Mathlib.Omega.{arith}
+use mathlib.Core.Path.{_≡_, refl, sym, ap, _∙_}
+use mathlib.Core.Bool.{Bool, true, false, not, cond, _&&_}
+use mathlib.Core.List.{List, [], _∷_, _++_, append-nil}
+use lib.Dec.{eqb, leb}
+use lib.ListN.{length, take, drop, length-append, take-append-drop}
+use lib.Seq.{length-take-le, take-all}
+use borrow.Author.Tests.{eqb-true, eq-eqb, ne-eqb, le-leb, leb-true, not-true, not-false}
+use Rattle.digits.specs.Tests.{and-left, and-right}
+use Rattle.digits.specs.Room.{over}
+use Rattle.digits.specs.RoomLaws.{length-over}
+use Rattle.frames.specs.declared.Entry.{Entry}
+use Rattle.frames.specs.Fields.{listed}
+use Rattle.frames.specs.Laws.{length-listed}
+use Rattle.frames.specs.Limits.{IsBox, log-limit}
+use Rattle.frames.specs.Message.{Message}
+use Rattle.frames.specs.WritingLaws.{length-spell, chars-entries}
+use Rattle.record.specs.declared.Record.{Record}
+use Rattle.record.specs.declared.Send.{Send}
+use Rattle.record.specs.declared.Decision.{Decision}
+use Rattle.record.specs.declared.Step.{Step}
+use Rattle.raft.specs.Record.{State, leader, is-other, is-progress, sends-to, good}
+use Rattle.raft.specs.RecordLaws.{Good, sent-facts}
+use Rattle.raft.specs.Sends.{texts}
+use Rattle.raft.specs.Journal.{head, Line, line-text, kept, same-stored, line-of, journaled}
+use Rattle.raft.specs.Outcome.{Outcome, done, refuse}
+use Rattle.raft.specs.LentLaws.{length-entries-of, terms-are, orders-are, drop-entries, take-entries, stored-terms, stored-orders, stored-log, terms-long, orders-long}
+use Rattle.record.specs.Calls.{entries-of, terms-of, orders-of, with-entries, state-of, record-of, Called, untouched, fit, written, run, Runs}
+use Rattle.record.specs.Deciding.{messages-of, new-of, log-after, after, decided, Decides, Sound}
+use Rattle.record.specs.Sizes.{is-silent, line-bytes, line-size, sent-size, roomy, Sendable, Tellable}
+use Rattle.record.specs.SizeLaws.{sent-long}
+
+-- ---- lengths
+
+-- how long a line is
+line-long : (l : Line) → length (line-text l) ≡ 23 + 24 * length (l .entries)
+unfolding line-text
+line-long l = simp (length-append, length-spell, chars-entries) (omega arith)
+
+-- and the head
+pub head-long : (box mask : ℕ) → length (head box mask) ≡ 9
+unfolding head
+head-long box mask = simp (length-append, length-spell)
+
+-- a step's line is as long as the struct says
+pub line-sized : (n : Record) (d : Decision) (terms orders : List ℕ) → line-size n d ≡ length (line-bytes n d terms orders)
+unfolding line-size line-bytes
+line-sized n d terms orders = go (is-silent n d)
+  where
+    entries : List Entry
+    entries = entries-of terms orders (d .kept) (d .next .last - d .kept)
+
+    line : List ℕ
+    line = line-text (record { box = d .next .me; term = d .next .term; vote = d .next .vote; kept = d .kept; entries = entries })
+
+    go : (b : Bool) → cond b 0 (23 + 24 * (d .next .last - d .kept)) ≡ length (cond b [] line)
+    go true = refl
+    go false = sym (line-long _ ∙ rw (length-entries-of terms orders (d .kept) (d .next .last - d .kept)))
+
+-- what fits, fits each by itself
+pub fits-both : {a b c d : ℕ} {r : Bool} → r ≡ roomy a b c d → not r ≡ false → (a ≤ b) × (c ≤ d)
+unfolding roomy
+fits-both {a} {b} {c} {d} {r} e h =
+    let both : (leb a b && leb c d) ≡ true = sym e ∙ not-false r h in
+    (leb-true a b (and-left (leb a b) (leb c d) both), leb-true c d (and-right (leb a b) (leb c d) both))
+
+-- next is at most one past the last index, whether the record sends or not
+progress-most : (sends : Bool) (last next matched : ℕ) {m : ℕ} → is-progress sends last next matched ≡ true → last ≡ m → next ≤ m + 1
+unfolding is-progress
+progress-most true last next matched h e = omega (arith, e, sent-facts last next matched h)
+progress-most false last next matched h e = omega (arith, eqb-true next 0 (and-left (eqb next 0) _ h))
+
+-- ---- the lent log behind a decision
+
+-- an empty list is not written
+over-empty : (d : List ℕ) (at : ℕ) → at ≤ length d → over d at [] ≡ d
+unfolding over
+over-empty d at h = rw (append-nil (take at d), add-zero at) (take-append-drop at d)
+
+module _ {n : Record} {d : Decision} {offered : List Entry} {terms orders : List ℕ} (u : Sound n d offered terms orders) where
+  k : Decides (n .last) d offered terms orders (decided d offered terms orders)
+  k = u .decides
+
+  p : n .last ≤ length terms
+  p = omega (arith, u .last, u .terms-long)
+
+  q : n .last ≤ length orders
+  q = omega (arith, u .last, u .orders-long)
+
+  y : d .next .last ≤ length terms
+  y = omega (arith, k .room, u .terms-long)
+
+  z : d .next .last ≤ length orders
+  z = omega (arith, k .room, u .orders-long)
+
+  abbrev s : State
+  s = state-of n terms orders
+
+  abbrev t : State
+  t = after d offered terms orders
+
+  abbrev new : List Entry
+  new = new-of d offered
+
+  -- the lent log with the new entries stored
+  abbrev terms' : List ℕ
+  terms' = over terms (d .kept) (terms-of new)
+
+  abbrev orders' : List ℕ
+  orders' = over orders (d .kept) (orders-of new)
+
+  new-long : length new ≡ d .count - d .first
+  new-long = length-listed offered (d .first) (d .count - d .first)
+
+  log-long : length (t .log) ≡ d .next .last
+  log-long = rw (length-append, length-entries-of terms orders 0 (d .kept), new-long) (sym (k .sum))
+
+  front : take (d .kept) (entries-of terms orders 0 (d .kept)) ≡ entries-of terms orders 0 (d .kept)
+  front = take-all (d .kept) (entries-of terms orders 0 (d .kept)) (omega (arith, length-entries-of terms orders 0 (d .kept)))
+
+  -- holds the next record's
+  lent : entries-of terms' orders' 0 (d .next .last) ≡ t .log
+  lent =
+      ap (entries-of terms' orders' 0) (omega (arith, new-long, k .sum))
+      ∙ stored-log terms orders (d .kept) (d .kept) new (omega arith) (omega (arith, k .low, p)) (omega (arith, k .low, q))
+      (omega (arith, new-long, k .sum, y)) (omega (arith, new-long, k .sum, z))
+      ∙ ap (λ (l : List Entry). l ++ new) front
+
+  pub after-lent : t ≡ state-of (d .next) terms' orders'
+  after-lent = rw lent
+
+  pub after-terms : terms' ≡ over terms 0 (terms-of (t .log))
+  after-terms =
+      stored-terms terms orders (d .kept) (d .kept) new (omega arith) (omega (arith, k .low, p)) (omega (arith, k .low, q))
+      ∙ ap (λ (l : List Entry). over terms 0 (terms-of (l ++ new))) front
+
+  pub after-orders : orders' ≡ over orders 0 (orders-of (t .log))
+  after-orders =
+      stored-orders terms orders (d .kept) (d .kept) new (omega arith) (omega (arith, k .low, p)) (omega (arith, k .low, q))
+      ∙ ap (λ (l : List Entry). over orders 0 (orders-of (l ++ new))) front
+
+  -- the struct is the next record's
+  pub after-record : d .next ≡ record-of t
+  after-record = rw log-long
+
+  -- the line is the definition's
+  pub after-line : journaled s t ≡ line-bytes n d terms' orders'
+  unfolding journaled same-stored line-of line-bytes is-silent
+  after-line =
+      rw (k .told, length-entries-of terms orders 0 (n .last), log-long, ← lent, drop-entries terms' orders' 0 (d .next .last) (d .kept), zero-add (d .kept))
+
+  -- ---- what the code leaves is what the outcome leaves
+
+  -- a refusal: nothing
+  pub refusal-left : (d .refusal ≡ 0 → ⊥) → (journal messages : List ℕ) {answer : Step}
+      → answer ≡ record { refusal = d .refusal; state = n; line = 0; sent = 0 }
+      → Runs (decided d offered terms orders) n terms orders journal messages answer terms orders journal messages
+  unfolding decided run
+  refusal-left h journal messages e = rw (e, ne-eqb (d .refusal) 0 h)
+
+  module _ (done-so : d .refusal ≡ 0) where
+    comes-done : decided d offered terms orders ≡ done t (messages-of (d .send) t)
+    unfolding decided
+    comes-done = rw (eq-eqb (d .refusal) 0 done-so)
+
+    line-told : line-size n d ≡ length (journaled s t)
+    line-told = line-sized n d terms' orders' ∙ sym (ap length after-line)
+
+    sent-told : sent-size (d .send) (d .next) ≡ length (texts (messages-of (d .send) t))
+    sent-told = sent-long (d .send) (d .next) terms' orders' ∙ rw after-lent
+
+    -- what does not fit: 5
+    pub short-left : (journal messages : List ℕ) {answer : Step} {line sent : ℕ} {r : Bool}
+        → answer ≡ record { refusal = 5; state = n; line = 0; sent = 0 } → line ≡ line-size n d → sent ≡ sent-size (d .send) (d .next)
+        → r ≡ roomy line (length journal) sent (length messages) → not r ≡ true
+        → Runs (decided d offered terms orders) n terms orders journal messages answer terms orders journal messages
+    unfolding run written fit roomy
+    short-left journal messages {answer} {line} {sent} {r} e l m f h =
+        rw (e, comes-done, ← line-told, ← sent-told, ← l, ← m, ← f, not-true r h)
+
+    -- what fits: the line, the messages, and the log with the new entries
+    pub fitting-left : (journal messages : List ℕ) {answer : Step} {line sent : ℕ} {r : Bool} {journal' messages' : List ℕ}
+        → answer ≡ record { refusal = 0; state = d .next; line = line; sent = sent } → line ≡ line-size n d → sent ≡ sent-size (d .send) (d .next)
+        → r ≡ roomy line (length journal) sent (length messages) → not r ≡ false
+        → journal' ≡ over journal 0 (line-bytes n d terms' orders')
+        → messages' ≡ over messages 0 (texts (messages-of (d .send) (state-of (d .next) terms' orders')))
+        → Runs (decided d offered terms orders) n terms orders journal messages answer terms' orders' journal' messages'
+    unfolding run written fit
+    fitting-left journal messages {answer} {line} {sent} {r} {journal'} {messages'} e l m f h jo me =
+        rw (
+          e,
+          l,
+          m,
+          jo ∙ ap (over journal 0) (sym after-line),
+          me ∙ ap (λ (u : State). over messages 0 (texts (messages-of (d .send) u))) (sym after-lent),
+          comes-done,
+          le-leb (length (journaled s t)) (length journal) (omega (arith, l, line-told, fits-both f h .0)),
+          le-leb (length (texts (messages-of (d .send) t))) (length messages) (omega (arith, m, sent-told, fits-both f h .1)),
+          line-told,
+          sent-told,
+          ← after-terms,
+          ← after-orders,
+        )
+        (ap (λ (b : Record). done-call b) after-record)
+      where
+        done-call : Record → Called
+        done-call b =
+            record {
+              answer = record { refusal = 0; state = b; line = length (journaled s t); sent = length (texts (messages-of (d .send) t)) };
+              terms = terms';
+              orders = orders';
+              journal = over journal 0 (journaled s t);
+              messages = over messages 0 (texts (messages-of (d .send) t));
+            }
+
+  -- where nothing is added the lent log stays as it was
+  pub log-stays : d .first ≡ d .count → (terms' ≡ terms) × (orders' ≡ orders)
+  unfolding listed terms-of orders-of
+  log-stays h =
+      let none : d .count - d .first ≡ 0 = omega arith in
+      (rw none (over-empty terms (d .kept) (omega (arith, k .low, p))), rw none (over-empty orders (d .kept) (omega (arith, k .low, q))))
+
+  -- the next record's messages can be made
+  pub after-sendable : d .refusal ≡ 0 → Sendable (d .next) terms' orders'
+  unfolding sends-to
+  after-sendable h =
+      let g : Good (state-of (d .next) terms' orders') = rw (← after-lent) (u .next-good h) in
+      record {
+        in-terms = omega (arith, y, length-over terms (d .kept) (terms-of new) (omega (arith, terms-long new, new-long, k .sum, y)));
+        in-orders = omega (arith, z, length-over orders (d .kept) (orders-of new) (omega (arith, orders-long new, new-long, k .sum, z)));
+        next = λ i b o. progress-most _ _ _ _ (g .sent i (b .least) (b .most)) (length-entries-of terms' orders' 0 (d .next .last));
+      }
+
+  -- and so can its line
+  pub after-tellable : Tellable (d .next) (d .kept) terms' orders'
+  after-tellable =
+      record {
+        low = omega (arith, k .sum);
+        few = omega (arith, k .sum, k .few);
+        in-terms = omega (arith, y, length-over terms (d .kept) (terms-of new) (omega (arith, terms-long new, new-long, k .sum, y)));
+        in-orders = omega (arith, z, length-over orders (d .kept) (orders-of new) (omega (arith, orders-long new, new-long, k .sum, z)));
+      }
+
+  -- ---- the same of lent arrays that hold what terms' and orders' do
+
+  module _ {terms'' orders'' : List ℕ} (same-terms : terms'' ≡ terms') (same-orders : orders'' ≡ orders') where
+    pub lent-sendable : d .refusal ≡ 0 → Sendable (d .next) terms'' orders''
+    lent-sendable h = rw (same-terms, same-orders) (after-sendable h)
+
+    pub lent-tellable : Tellable (d .next) (d .kept) terms'' orders''
+    lent-tellable = rw (same-terms, same-orders) after-tellable
+
+    pub lent-left : d .refusal ≡ 0 → (journal messages : List ℕ) {answer : Step} {line sent : ℕ} {r : Bool} {journal' messages' : List ℕ}
+        → answer ≡ record { refusal = 0; state = d .next; line = line; sent = sent } → line ≡ line-size n d → sent ≡ sent-size (d .send) (d .next)
+        → r ≡ roomy line (length journal) sent (length messages) → not r ≡ false
+        → journal' ≡ over journal 0 (line-bytes n d terms'' orders'')
+        → messages' ≡ over messages 0 (texts (messages-of (d .send) (state-of (d .next) terms'' orders'')))
+        → Runs (decided d offered terms orders) n terms orders journal messages answer terms'' orders'' journal' messages'
+    lent-left h journal messages e l m f b jo me =
+        rw (same-terms, same-orders)
+        (fitting-left h journal messages e l m f b (rw (same-terms, same-orders) at jo) (rw (same-terms, same-orders) at me))
+
+  -- where the new entries were stored behind the place of the offered ones
+  pub stored-at : {stored : List ℕ} (i : ℕ) (old new : List ℕ) → i + d .first ≡ d .kept → stored ≡ over old (i + d .first) new
+      → stored ≡ over old (d .kept) new
+  stored-at i old new e h = rw (← e) h

@@ -1,0 +1,81 @@
+// 01's record as structs, what an event decides of it, and what a step answers. Nothing to run here: `specs/` says what they mean.
+
+// What a leader alone has: next and match for each box, box i's at place i-1.
+pub struct Lead {
+    pub next: [u16; Record::BOXES],
+    pub matched: [u16; Record::BOXES],
+}
+
+// The box's record, but for its log, which the caller lends: `last` counts its entries.
+pub struct Record {
+    pub me: u8,
+    pub members: u8,
+    pub term: u32,
+    pub vote: u8,
+    pub last: u16,
+    pub commit: u16,
+    pub role: u8,
+    pub votes: u8,
+    pub lead: Lead,
+}
+
+impl Record {
+    // 01's limits: boxes 1 to 7, a log of 256 entries, 4 entries a frame.
+    pub const BOXES: usize = 7;
+
+    pub const LOG: usize = 256;
+
+    pub const ENTRIES: usize = 4;
+
+    // The last term there is.
+    pub const LAST_TERM: u32 = 4294967295;
+
+    // Roles.
+    pub const FOLLOWER: u8 = 0;
+
+    pub const CANDIDATE: u8 = 1;
+
+    pub const LEADER: u8 = 2;
+}
+
+// What a step sends. An answer's reply is 1, yes, or 0, no.
+pub enum Send {
+    Nothing,
+    Requests,
+    Appends,
+    Append { to: u8 },
+    VoteAnswer { to: u8, reply: u8 },
+    AppendAnswer { to: u8, reply: u8, index: u16 },
+}
+
+// What an event decides, before anything is written: 01's number; where that is 0 the next record, how many entries of the log it keeps, which of
+// the entries that were offered come behind them (from first up to count), and what is sent.
+pub struct Decision {
+    pub refusal: u8,
+    pub next: Record,
+    pub kept: u16,
+    pub first: u8,
+    pub count: u8,
+    pub send: Send,
+}
+
+// A step's answer: 01's number, the next record, and how many bytes of journal line and messages were written.
+pub struct Step {
+    pub refusal: u8,
+    pub state: Record,
+    pub line: usize,
+    pub sent: usize,
+}
+
+// A start's answer: 01's number, the record, and how many bytes of head were written.
+pub struct Started {
+    pub refusal: u8,
+    pub state: Record,
+    pub bytes: usize,
+}
+
+// How many entries are handed out, with 01's number.
+pub struct Handed {
+    pub refusal: u8,
+    pub count: u16,
+}
