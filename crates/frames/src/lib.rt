@@ -37,6 +37,15 @@ impl Fields {
     pub const LOG: u16 = 256;
 
     pub const ENTRIES: usize = 4;
+
+    // Kinds.
+    pub const VOTE_REQUEST: u8 = 1;
+
+    pub const VOTE_ANSWER: u8 = 2;
+
+    pub const APPEND: u8 = 3;
+
+    pub const APPEND_ANSWER: u8 = 4;
 }
 
 // The reader's answer: refusal 0 and the fields, or 1 and zeros.

@@ -1,122 +1,159 @@
-// A box: one function for each event, on any record and any bytes. The log is lent by the caller, as terms and orders, entry i at place i-1.
-mod calls;
-
-// For who knows that the record is good: it is looked at once, and stays good from step to step.
-pub use calls::run_bytes;
+// A box: a constructor and one method for each event, on any record and any bytes. The log is lent by the caller, as terms and orders, entry i at place i-1.
+use changes::is_good;
 use record::Handed;
-use record::Node;
-use record::Started;
+use record::Record;
 use record::Step;
 ghost use mathlib.Core.Path.{_≡_};
-ghost use Rattle.raft.specs.Record.{fresh};
-ghost use Rattle.raft.specs.Timeout.{timeout};
-ghost use Rattle.raft.specs.Prompt.{prompt};
-ghost use Rattle.raft.specs.Order.{order as ordering};
-ghost use Rattle.raft.specs.Receive.{receive as receiving};
-ghost use Rattle.record.specs.Calls.{node-of, Called, call, Begun, begun, handed};
+ghost use Rattle.raft.specs.Event.{times-out, takes-order, is-prompted, receives};
+ghost use Rattle.record.specs.Calls.{handed};
+ghost use Rattle.node.specs.Outside.{Starts, Calls};
 
-// "A fresh box stands in term 0, has voted for nobody, has an empty log and is a follower." Only a start makes one.
-fn fresh(me: u8, members: u8) -> Node
-    ensures { λ r. ⌜ r ≡ node-of (fresh me members) ⌝ }
+// The box.
+pub struct Node {
+    pub state: Record,
+}
+
+// A start's answer: 01's number, the box, and how many bytes of head were written.
+pub struct Started {
+    pub refusal: u8,
+    pub node: Node,
+    pub bytes: usize,
+}
+
+// A step's answer: 01's number, the next box, and how many bytes of journal line and messages were written.
+pub struct Answer {
+    pub refusal: u8,
+    pub node: Node,
+    pub line: usize,
+    pub sent: usize,
+}
+
+// A step's answer, with the box around its record.
+fn answer(done: Step) -> Answer
+    ensures { λ r. ⌜ r ≡ record { refusal = done .refusal; node = record { state = done .state }; line = done .line; sent = done .sent } ⌝ }
 {
-    let none = [0u16; Node::BOXES];
-    Node {
-        me,
-        members,
-        term: 0,
-        vote: 0,
-        last: 0,
-        commit: 0,
-        role: 0,
-        votes: 0,
-        next: none,
-        matched: none,
+    let state = done.state;
+    let node = Node { state };
+    Answer {
+        refusal: done.refusal,
+        node,
+        line: done.line,
+        sent: done.sent,
     }
 }
 
-// Starts a box: 12 exactly when its number or mask is bad, 5 exactly when the room is too short for the head.
-pub fn start(me: u8, mask: u8, room: &mut [u8]) -> Started
-    ensures { λ r. ⌜ _≡_ {A = Begun} (record { answer = r; room = now (room .exit) }) (begun me mask (now (room .entry))) ⌝ }
-{
-    if !rules::is_membership(me, mask) {
-        return Started {
-            refusal: 12,
-            node: fresh(0, 0),
-            bytes: 0,
-        };
+impl Node {
+    // 01's limits: boxes 1 to 7, a log of 256 entries, 4 entries a frame.
+    pub const BOXES: usize = 7;
+
+    pub const LOG: usize = 256;
+
+    pub const ENTRIES: usize = 4;
+
+    // Starts a box: 12 exactly when its number or mask is bad, 5 exactly when the room is too short for the head.
+    pub fn start(me: u8, mask: u8, journal: &mut [u8]) -> Started
+        ensures { λ r. ⌜ Starts me mask (now (journal .entry)) r (now (journal .exit)) ⌝ }
+    {
+        let started = events::start(me, mask, journal);
+        let state = started.state;
+        let node = Node { state };
+        Started {
+            refusal: started.refusal,
+            node,
+            bytes: started.bytes,
+        }
     }
-    if room.len() < 9 {
-        return Started {
-            refusal: 5,
-            node: fresh(0, 0),
-            bytes: 0,
-        };
+
+    // "Timeout. Leader: nothing. Otherwise term + 1, candidate, .."
+    pub fn timeout(
+        self,
+        terms: &[u32; Node::LOG],
+        orders: &[u64; Node::LOG],
+        journal: &mut [u8],
+        messages: &mut [u8],
+    ) -> Answer
+        ensures { λ r. ⌜ Calls times-out self (now (terms .entry)) (now (orders .entry)) (now (journal .entry)) (now (messages .entry)) r
+            (now (terms .entry)) (now (orders .entry)) (now (journal .exit)) (now (messages .exit)) ⌝ }
+    {
+        let n = self.state;
+        if !is_good(n, terms) {
+            return answer(finishing::refused(n, 12));
+        }
+        answer(events::run_timeout(n, terms, orders, journal, messages))
     }
-    writing::put_head(room, me, mask);
-    Started {
-        refusal: 0,
-        node: fresh(me, mask),
-        bytes: 9,
+
+    // "Order (leader). Entry with the current term, then an append to each other member."
+    pub fn order(
+        self,
+        order: u64,
+        terms: &mut [u32; Node::LOG],
+        orders: &mut [u64; Node::LOG],
+        journal: &mut [u8],
+        messages: &mut [u8],
+    ) -> Answer
+        ensures { λ r. ⌜ Calls (takes-order order) self (now (terms .entry)) (now (orders .entry)) (now (journal .entry)) (now (messages .entry)) r
+            (now (terms .exit)) (now (orders .exit)) (now (journal .exit)) (now (messages .exit)) ⌝ }
+    {
+        let n = self.state;
+        if !is_good(n, &terms[..]) {
+            return answer(finishing::refused(n, 12));
+        }
+        answer(events::run_order(n, order, terms, orders, journal, messages))
     }
-}
 
-// "Timeout. Leader: nothing. Otherwise term + 1, candidate, ..". The journal line and the messages go into room that the caller lends.
-pub fn timeout(
-    n: Node,
-    terms: &[u32; Node::LOG],
-    orders: &[u64; Node::LOG],
-    journal: &mut [u8],
-    room: &mut [u8],
-) -> Step
-    ensures { λ r. ⌜ _≡_ {A = Called} (record { answer = r; terms = now (terms .entry); orders = now (orders .entry); journal = now (journal .exit); room = now (room .exit) }) (call timeout n (now (terms .entry)) (now (orders .entry)) (now (journal .entry)) (now (room .entry))) ⌝ }
-{
-    calls::timeout(n, terms, orders, journal, room)
-}
+    // "Prompt (leader): an append to each."
+    pub fn prompt(
+        self,
+        terms: &[u32; Node::LOG],
+        orders: &[u64; Node::LOG],
+        journal: &mut [u8],
+        messages: &mut [u8],
+    ) -> Answer
+        ensures { λ r. ⌜ Calls is-prompted self (now (terms .entry)) (now (orders .entry)) (now (journal .entry)) (now (messages .entry)) r
+            (now (terms .entry)) (now (orders .entry)) (now (journal .exit)) (now (messages .exit)) ⌝ }
+    {
+        let n = self.state;
+        if !is_good(n, terms) {
+            return answer(finishing::refused(n, 12));
+        }
+        answer(events::run_prompt(n, terms, orders, journal, messages))
+    }
 
-// "Order (leader). Entry with the current term, then an append to each other member."
-pub fn order(
-    n: Node,
-    order: u64,
-    terms: &mut [u32; Node::LOG],
-    orders: &mut [u64; Node::LOG],
-    journal: &mut [u8],
-    room: &mut [u8],
-) -> Step
-    ensures { λ r. ⌜ _≡_ {A = Called} (record { answer = r; terms = now (terms .exit); orders = now (orders .exit); journal = now (journal .exit); room = now (room .exit) }) (call (ordering order) n (now (terms .entry)) (now (orders .entry)) (now (journal .entry)) (now (room .entry))) ⌝ }
-{
-    calls::order(n, order, terms, orders, journal, room)
-}
+    // A frame's bytes, or any others: 1 where they are not one frame, 2 where it is not for this box, and then 01's rules for its kind.
+    pub fn receive(
+        self,
+        bytes: &[u8],
+        terms: &mut [u32; Node::LOG],
+        orders: &mut [u64; Node::LOG],
+        journal: &mut [u8],
+        messages: &mut [u8],
+    ) -> Answer
+        ensures { λ r. ⌜ Calls (receives (now (bytes .entry))) self (now (terms .entry)) (now (orders .entry)) (now (journal .entry)) (now (messages .entry)) r
+            (now (terms .exit)) (now (orders .exit)) (now (journal .exit)) (now (messages .exit)) ⌝ }
+    {
+        let n = self.state;
+        if !is_good(n, &terms[..]) {
+            return answer(finishing::refused(n, 12));
+        }
+        answer(messages::run_bytes(
+            n, bytes, terms, orders, journal, messages,
+        ))
+    }
 
-// "Prompt (leader): an append to each."
-pub fn prompt(
-    n: Node,
-    terms: &[u32; Node::LOG],
-    orders: &[u64; Node::LOG],
-    journal: &mut [u8],
-    room: &mut [u8],
-) -> Step
-    ensures { λ r. ⌜ _≡_ {A = Called} (record { answer = r; terms = now (terms .entry); orders = now (orders .entry); journal = now (journal .exit); room = now (room .exit) }) (call prompt n (now (terms .entry)) (now (orders .entry)) (now (journal .entry)) (now (room .entry))) ⌝ }
-{
-    calls::prompt(n, terms, orders, journal, room)
-}
-
-// A frame's bytes, or any others: 1 where they are not one frame, 2 where it is not for this box, and then 01's rules for its kind.
-pub fn receive(
-    n: Node,
-    bytes: &[u8],
-    terms: &mut [u32; Node::LOG],
-    orders: &mut [u64; Node::LOG],
-    journal: &mut [u8],
-    room: &mut [u8],
-) -> Step
-    ensures { λ r. ⌜ _≡_ {A = Called} (record { answer = r; terms = now (terms .exit); orders = now (orders .exit); journal = now (journal .exit); room = now (room .exit) }) (call (receiving (now (bytes .entry))) n (now (terms .entry)) (now (orders .entry)) (now (journal .entry)) (now (room .entry))) ⌝ }
-{
-    calls::receive(n, bytes, terms, orders, journal, room)
-}
-
-// "Handed out: entries 1 to commit": how many of the lent log's entries.
-pub fn handed_out(n: Node, terms: &[u32; Node::LOG], orders: &[u64; Node::LOG]) -> Handed
-    ensures { λ r. ⌜ r ≡ handed n (now (terms .entry)) (now (orders .entry)) ⌝ }
-{
-    calls::handed_out(n, terms, orders)
+    // "Handed out: entries 1 to commit": how many of the lent log's entries.
+    pub fn handed_out(self, terms: &[u32; Node::LOG], orders: &[u64; Node::LOG]) -> Handed
+        ensures { λ r. ⌜ r ≡ handed (self .state) (now (terms .entry)) (now (orders .entry)) ⌝ }
+    {
+        let n = self.state;
+        if !is_good(n, terms) {
+            return Handed {
+                refusal: 12,
+                count: 0,
+            };
+        }
+        Handed {
+            refusal: 0,
+            count: n.commit,
+        }
+    }
 }

@@ -1,0 +1,38 @@
+-- What the deciders of the messages require of their callers, by name. Assumes nothing.
+use Prim.Native.Nat.{ℕ, _+_, _≤_}
+use mathlib.Core.Path.{_≡_}
+use mathlib.Core.Bool.{true}
+use mathlib.Core.List.{List}
+use lib.ListN.{length}
+use Rattle.frames.specs.declared.Fields.{Fields}
+use Rattle.frames.specs.Fields.{one-frame}
+use Rattle.frames.specs.Limits.{log-limit}
+use Rattle.record.specs.declared.Record.{Record}
+use Rattle.record.specs.Calls.{Ready}
+use Rattle.record.specs.Deciding.{OtherBox}
+
+-- The log's terms are lent whole.
+pub record Lent (b : Record) (terms : List ℕ) : Type 0 where
+  pub long : length terms ≡ log-limit
+  pub last : b .last ≤ log-limit
+
+-- What an append offers fits a log.
+pub record Offered (b : Record) (index count : ℕ) (terms : List ℕ) : Type 0 where
+  pub lent : Lent b terms
+  pub few : count ≤ 4
+  pub room : index + count ≤ log-limit
+
+-- A message from another member, at a good record.
+pub record From (b : Record) (from : ℕ) (terms orders : List ℕ) : Type 0 where
+  pub ready : Ready b terms orders
+  pub sender : OtherBox b from
+
+-- The fields of one frame, at a good record,
+pub record Read (b : Record) (f : Fields) (terms orders : List ℕ) : Type 0 where
+  pub ready : Ready b terms orders
+  pub frame : one-frame f ≡ true
+
+-- and from another member.
+pub record Delivered (b : Record) (f : Fields) (terms orders : List ℕ) : Type 0 where
+  pub read : Read b f terms orders
+  pub sender : OtherBox b (f .from)

@@ -1,0 +1,29 @@
+// "Vote answer", at a box that is in the answer's term.
+use changes::step;
+use changes::won;
+use record::Decision;
+use record::Record;
+use record::Send;
+ghost use mathlib.Core.List.{List};
+ghost use Rattle.frames.specs.declared.Entry.{Entry};
+ghost use Rattle.raft.specs.VoteAnswer.{on-vote-answer};
+ghost use Rattle.record.specs.Calls.{state-of};
+ghost use Rattle.record.specs.Deciding.{Decides};
+ghost use Rattle.messages.specs.Required.{From};
+
+// "At a candidate a yes adds the sender; a majority wins. Otherwise nothing."
+pub fn vote_answer(t: Record, from: u8, reply: u8, terms: &[u32], orders: &[u64]) -> Decision
+    requires { ⌜ From t from (now terms) (now orders) ⌝ }
+    ensures { λ r. ⌜ ((offered : List Entry) → Decides (t .last) r offered (now (terms .entry)) (now (orders .entry))
+        (on-vote-answer (state-of t (now (terms .entry)) (now (orders .entry))) from reply)) ⌝ }
+{
+    if (t.role != Record::CANDIDATE) | (reply != 1) {
+        return step(t, Send::Nothing);
+    }
+    let mut added = t;
+    added.votes = t.votes | rules::bit(from);
+    if !rules::is_majority(added.members, added.votes) {
+        return step(added, Send::Nothing);
+    }
+    step(won(added, terms, orders), Send::Appends)
+}

@@ -1,0 +1,2 @@
+-- The outside calls, as their contracts say them.
+pub mod Outside
