@@ -37,7 +37,7 @@ hands-longer {n = n} b x =
 
 module _ {rule : Rule} {h : History} (f : Facts rule h) where
   -- the joined log begins with what was handed out, for the sender's log does
-  pub joins-handed : {own next : List Entry} {bound s m n : ℕ} → Hands rule h bound own n → Won (h .leaders) s → bound ≤ s
+  joins-handed : {own next : List Entry} {bound s m n : ℕ} → Hands rule h bound own n → Won (h .leaders) s → bound ≤ s
       → Joins own (h .leaders .log s) m next → Begins (take n own) next
   joins-handed {own} {n = n} x w l j = joins-keeps j (begins-take n own) (sender-holds f (x .covered) _ w l)
 
