@@ -70,8 +70,13 @@ module _ {rule : Rule} {h : History} (f : Facts rule h) where
   joins-hands {own} {next} {bound} {s} {m} {n} {k} x r l y j =
       record {
         within =
-            omega (arith, length-take-le n own (x .within), begins-long (joins-handed x (r .won) l j), length-take-le m (h .leaders .log s) (r .within),
-            begins-long (joins-first j));
+            omega (
+              arith,
+              length-take-le n own (x .within),
+              begins-long (joins-handed x (r .won) l j),
+              length-take-le m (h .leaders .log s) (r .within),
+              begins-long (joins-first j),
+            );
         covered =
             joins-either k x r l j (Covered rule h s) (covered-less (x .covered) _ (begins-self _) s l)
             (λ log b. covered-less (y .covered) log b s (le-refl s));
