@@ -22,6 +22,11 @@ use Rattle.journal.specs.Lines.{lines, whole-bytes, mask-in, count-in, line-sha
 use Rattle.journal.specs.Opening.{restarted, is-of-box, term-holds, vote-is, vote-stays, Replayed, next, breaks, replayed}
 use Rattle.journal.specs.Opening.{Opened, opened, headless, broken, replay, is-head, opening}
 
+-- The log is lent whole.
+pub record LentLog (terms orders : List ℕ) : Type 0 where
+  pub terms-long : length terms ≡ log-limit
+  pub orders-long : length orders ≡ log-limit
+
 -- ---- one line
 
 -- What the fields' reader requires: the form of a line, and no more entries than a line has.
@@ -87,7 +92,8 @@ Found r terms orders headless = ⊥
 Found r terms orders (broken line) = r ≡ record { refusal = 10; state = none; bytes = 0; line = line }
 
 -- The lines from a place on, from a struct and a lent log on: what that requires, and what it leaves.
-pub record Begins (start : Record) (bytes : List ℕ) (first : ℕ) : Type 0 where
+pub record Begins (start : Record) (bytes : List ℕ) (first : ℕ) (terms orders : List ℕ) : Type 0 where
+  pub lent : LentLog terms orders
   pub inside : first ≤ length bytes
   pub behind : 2 ≤ first
   pub room : start .last ≤ log-limit

@@ -24,7 +24,7 @@ use Rattle.record.specs.Calls.{state-of, record-of}
 use Rattle.journal.specs.Lines.{lines, whole-bytes, box-in, mask-in, head-shaped}
 use Rattle.journal.specs.Opening.{Opened, opened, headless, broken, replay, is-head, open-lines, opening}
 use Rattle.opening.specs.declared.Opened as answers
-use Rattle.opening.specs.Calls.{none, Found, Begins, Finds, opening-by, opens, Opens}
+use Rattle.opening.specs.Calls.{LentLog, none, Found, Begins, Finds, opening-by, opens, Opens}
 use Rattle.opening.specs.CodeLaws.{head-nine-long}
 use Rattle.opening.specs.ReplayCode.{lines-end, lines-next}
 
@@ -93,9 +93,9 @@ module _ (me : ℕ) (bytes : List ℕ) {end mask : ℕ} (e : end ≡ 0 + first-l
 
     -- the lines behind it begin with the fresh record's struct, whatever log is lent
     module _ {n : Record} (g : n ≡ record-of (fresh me mask)) where
-      pub open-begins : Begins n bytes end
+      pub open-begins : {terms orders : List ℕ} → LentLog terms orders → Begins n bytes end terms orders
       unfolding fresh
-      open-begins = record { inside = head-end .1; behind = head-end .0; room = rw g (omega arith) }
+      open-begins lent = record { lent = lent; inside = head-end .1; behind = head-end .0; room = rw g (omega arith) }
 
       fresh-state : (made taken : List ℕ) → state-of n made taken ≡ fresh me mask
       unfolding fresh entries-of
@@ -136,7 +136,7 @@ module _ (me : ℕ) (bytes terms orders : List ℕ) where
         go (broken line) f = absurd (omega (arith, h, ap (λ (x : answers.Opened). x .refusal) f))
 
     -- and is handed over
-    pub opens-found : {terms' orders' : List ℕ} → found .refusal ≡ 0 → log-limit ≤ length made → log-limit ≤ length taken
+    pub opens-found : {terms' orders' : List ℕ} → found .refusal ≡ 0 → length made ≡ log-limit → length taken ≡ log-limit
         → terms' ≡ over terms 0 (take (found .state .last) made) → orders' ≡ over orders 0 (take (found .state .last) taken)
         → Opens me bytes terms orders found terms' orders'
     unfolding opens opening-by Found

@@ -34,7 +34,7 @@ use Rattle.journal.specs.Opening.{Replayed, next, breaks, replayed, Opened, ope
 use Rattle.opening.specs.declared.Told.{Told}
 use Rattle.opening.specs.declared.Replayed as declared
 use Rattle.opening.specs.declared.Opened as answers
-use Rattle.opening.specs.Calls.{line-of, allows-numbers, Advances, Replaying, replaying-by, replaying, Replays, none, Found, Begins}
+use Rattle.opening.specs.Calls.{LentLog, line-of, allows-numbers, Advances, Replaying, replaying-by, replaying, Replays, none, Found, Begins}
 use Rattle.opening.specs.CodeLaws.{first-none, first-whole, allows-by, Numbers, numbers}
 
 -- ---- one line
@@ -78,7 +78,7 @@ module _ (b : Record) (bytes terms orders : List ℕ) where
 
   -- a good line
   module _ (l : Told) (h : line-shaped bytes ≡ true) (e : line-of l ≡ line-in bytes) (a : allows s (line-of l) ≡ true)
-      (p : length terms ≡ log-limit) (q : length orders ≡ log-limit) where
+      (lent : LentLog terms orders) where
     abbrev es : List Entry
     es = listed (l .entries) 0 (l .count)
 
@@ -107,9 +107,10 @@ module _ (b : Record) (bytes terms orders : List ℕ) where
 
     stored : (over terms (l .kept) (terms-of es) ≡ over terms 0 (terms-of log)) × (over orders (l .kept) (orders-of es) ≡ over orders 0 (orders-of log))
     stored =
-        rw (← front)
-        (stored-terms terms orders (l .kept) (l .kept) es (omega arith) (omega (arith, fits .room)) (omega (arith, fits .room)),
-        stored-orders terms orders (l .kept) (l .kept) es (omega arith) (omega (arith, fits .room)) (omega (arith, fits .room)))
+        rw (← front) (
+          stored-terms terms orders (l .kept) (l .kept) es (omega arith) (omega (arith, fits .room, lent .terms-long)) (omega (arith, fits .room, lent .orders-long)),
+          stored-orders terms orders (l .kept) (l .kept) es (omega arith) (omega (arith, fits .room, lent .terms-long)) (omega (arith, fits .room, lent .orders-long)),
+        )
 
     goes : replayed s bytes ≡ next (after s (line-of l))
     unfolding replayed
@@ -234,15 +235,17 @@ module _ (bytes : List ℕ) (first : ℕ) (start : State) where
 
   -- What was replayed up to a place, and what is to be replayed yet, make the whole opening.
   pub record Reached (state : Record) (terms orders : List ℕ) (at number : ℕ) : Type 0 where
+    pub lent : LentLog terms orders
     pub inside : at ≤ length bytes
     pub counted : number ≤ at
     pub room : state .last ≤ log-limit
     pub bytes-left : whole ≡ at + whole-bytes (drop at bytes)
     pub same : all ≡ replay whole (state-of state terms orders) number (lines (drop at bytes))
 
-pub reached-first : {start : Record} {bytes : List ℕ} {first : ℕ} → Begins start bytes first → (terms orders : List ℕ)
+pub reached-first : {start : Record} {bytes : List ℕ} {first : ℕ} {terms orders : List ℕ} → Begins start bytes first terms orders
     → Reached bytes first (state-of start terms orders) start terms orders first 2
-reached-first b terms orders = record { inside = b .inside; counted = b .behind; room = b .room; bytes-left = refl; same = refl }
+reached-first b =
+    record { lent = b .lent; inside = b .inside; counted = b .behind; room = b .room; bytes-left = refl; same = refl }
 
 module _ {bytes : List ℕ} {first : ℕ} {start : State} {state : Record} {terms orders : List ℕ} {at number : ℕ}
     (s : Reached bytes first start state terms orders at number) {end : ℕ} (e : end ≡ at + first-line (drop at bytes)) where
@@ -281,11 +284,12 @@ module _ {bytes : List ℕ} {first : ℕ} {start : State} {state : Record} {term
     reached-broken q f ts os = rw (s .same, lines-next bytes at (s .inside) some .0, ← gone, line-breaks _ _ _ _ a q) f
 
     -- and a good one
-    pub reached-next : one .refusal ≡ 0 → Reached bytes first start (one .state) terms' orders' end (number + 1)
+    pub reached-next : one .refusal ≡ 0 → LentLog terms' orders' → Reached bytes first start (one .state) terms' orders' end (number + 1)
     unfolding replay go-on
-    reached-next q =
+    reached-next q lent =
         let goes = line-goes _ _ _ _ a q in
         record {
+          lent = lent;
           inside = end-inside;
           counted = omega (arith, e, s .counted, z);
           room = goes .room;

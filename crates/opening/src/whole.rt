@@ -16,7 +16,7 @@ ghost use Prim.Native.Nat.{_+_, _≤_};
 ghost use lib.ListN.{length, take};
 ghost use Rattle.digits.specs.Room.{over};
 ghost use Rattle.frames.specs.Limits.{log-limit};
-ghost use Rattle.opening.specs.Calls.{Advances, Replays, none, Begins, Finds, Opens};
+ghost use Rattle.opening.specs.Calls.{LentLog, Advances, Replays, none, Begins, Finds, Opens};
 
 fn breaks(n: Record) -> Replayed
     ensures { λ r. ⌜ r ≡ record { refusal = 10; state = n } ⌝ }
@@ -41,12 +41,8 @@ fn after(n: Record, l: Told) -> Record
 }
 
 // One whole line, with its line feed, over any record: for journals that are longer than memory.
-pub fn replay(
-    n: Record,
-    line: &[u8],
-    terms: &mut [u32; Record::LOG],
-    orders: &mut [u64; Record::LOG],
-) -> Replayed
+pub fn replay(n: Record, line: &[u8], terms: &mut [u32], orders: &mut [u64]) -> Replayed
+    requires { ⌜ LentLog (now terms) (now orders) ⌝ }
     ensures { λ r. ⌜ Replays n (now (line .entry)) (now (terms .entry)) (now (orders .entry)) r (now (terms .exit)) (now (orders .exit)) ⌝ }
 {
     if !is_shaped(line) {
@@ -82,10 +78,10 @@ fn replay_all(
     start: Record,
     bytes: &[u8],
     first: usize,
-    terms: &mut [u32; Record::LOG],
-    orders: &mut [u64; Record::LOG],
+    terms: &mut [u32],
+    orders: &mut [u64],
 ) -> Opened
-    requires { ⌜ Begins start (now bytes) first ⌝ }
+    requires { ⌜ Begins start (now bytes) first (now terms) (now orders) ⌝ }
     ensures { λ r. ⌜ Finds start (now (bytes .entry)) first (now (terms .entry)) (now (orders .entry)) r (now (terms .exit)) (now (orders .exit)) ⌝ }
 {
     let mut state = start;

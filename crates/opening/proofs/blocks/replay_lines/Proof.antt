@@ -1,60 +1,74 @@
+-- What was replayed and what is left make the whole (`Counted`); each turn takes a line.
 use borrow.Author.Needs.{needs}
+use native.Mathlib.Omega.{arith}
+use Prim.Native.Nat.{_-_}
+use lib.ListN.{length}
+use Rattle.opening.specs.BlockCode.{Counted, counted-first, line-inside, counted-end, counted-stop, counted-next}
 use Rattle.opening.proofs.blocks.replay_lines.Statement.{statement}
 use Rattle.opening.proofs.blocks.replay_lines.Tie as tie
-use Rattle.opening.proofs.blocks.replay_lines.Reads as reads
-use Rattle.opening.proofs.blocks.replay_lines.Lts as lts
-use Rattle.opening.proofs.whole.replay.Reads as replay-reads
-use Rattle.text.proofs.line_end.Reads as line-end-reads
 
 abbrev Inv-loop : tie.InvT-loop
-Inv-loop bytes terms₀ orders₀ state₀ at₀ lines₀ terms orders state at lines = ?
+Inv-loop bytes terms₀ orders₀ state₀ at₀ lines₀ terms orders state at lines = Counted state₀ bytes terms₀ orders₀ state terms orders at lines
 
 abbrev μ-loop : tie.MeasureT-loop
-μ-loop bytes terms₀ orders₀ state₀ at₀ lines₀ terms orders state at lines = ?
+μ-loop bytes terms₀ orders₀ state₀ at₀ lines₀ terms orders state at lines = length bytes - at
 
--- src/blocks.rt:40:5
 loop-holds : tie.Need-loop-holds Inv-loop μ-loop
-loop-holds c = search needs
+loop-holds c = counted-first _ _ _ _
 
--- src/blocks.rt:41:13
 line-end-requires : tie.Need-line-end-requires Inv-loop μ-loop
 line-end-requires c κs = search needs
 
--- src/blocks.rt:43:13
 returns : tie.Need-returns Inv-loop μ-loop
-returns c = search needs
+returns c =
+    let at-line-end = c .before in
+    let at-loop = at-line-end .before in
+    counted-end (at-loop .loop .inv) (at-line-end .line-end .ensures) (c .if1 .taken)
 
--- src/blocks.rt:50:33
 sub-replay : tie.Need-sub-replay Inv-loop μ-loop
 sub-replay c = search needs
 
--- src/blocks.rt:50:33
 part-replay-start : tie.Need-part-replay-start Inv-loop μ-loop
 part-replay-start c = search needs
 
--- src/blocks.rt:50:33
 part-replay-end : tie.Need-part-replay-end Inv-loop μ-loop
-part-replay-end c = search needs
+part-replay-end c =
+    let at-line-end = c .before in
+    let at-loop = at-line-end .before in
+    line-inside (at-loop .loop .inv) (at-line-end .line-end .ensures)
 
--- src/blocks.rt:50:13
 replay-requires : tie.Need-replay-requires Inv-loop μ-loop
 replay-requires c κs = search needs
 
--- src/blocks.rt:52:13
 returns-2 : tie.Need-returns-2 Inv-loop μ-loop
-returns-2 c = search needs
+returns-2 c =
+    let at-replay = c .before .before in
+    let at-if1 = at-replay .before .before .before .before in
+    let at-line-end = at-if1 .before in
+    let at-loop = at-line-end .before in
+    counted-stop (at-loop .loop .inv) (at-line-end .line-end .ensures) (at-if1 .if1 .left) (at-replay .replay .ensures) (c .if2 .taken)
 
--- src/blocks.rt:61:9
 add-lines : tie.Need-add-lines Inv-loop μ-loop
-add-lines c = search needs
+add-lines c =
+    let at-loop = c .before .before .before .before .before .before .before .before .before in
+    let entered = at-loop .before .before in
+    omega (arith, at-loop .loop .inv .few, at-loop .loop .inv .inside, entered .good)
 
--- src/blocks.rt:40:5
 loop-less : tie.Need-loop-less Inv-loop μ-loop
-loop-less c = search needs
+loop-less c =
+    let at-if1 = c .before .before .before .before .before .before .before in
+    let at-line-end = at-if1 .before in
+    let at-loop = at-line-end .before in
+    omega (arith, line-inside (at-loop .loop .inv) (at-line-end .line-end .ensures), at-line-end .line-end .ensures, at-if1 .if1 .left)
 
--- src/blocks.rt:40:5
 loop-again : tie.Need-loop-again Inv-loop μ-loop
-loop-again c = search needs
+loop-again c =
+    let at-if2 = c .before in
+    let at-replay = at-if2 .before .before in
+    let at-if1 = at-replay .before .before .before .before in
+    let at-line-end = at-if1 .before in
+    let at-loop = at-line-end .before in
+    counted-next (at-loop .loop .inv) (at-line-end .line-end .ensures) (at-if1 .if1 .left) (at-replay .replay .ensures) (at-if2 .if2 .left)
 
 pub replay-lines-spec : {M : Type 1} → statement M
 replay-lines-spec =

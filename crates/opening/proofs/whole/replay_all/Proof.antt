@@ -1,65 +1,102 @@
+-- What was replayed and what is left make the whole opening (`Reached`); each turn takes a line.
 use borrow.Author.Needs.{needs}
+use native.Mathlib.Omega.{arith}
+use mathlib.Core.Path.{_≡_, sym, _∙_}
+use Prim.Native.Nat.{_-_}
+use lib.ListN.{length}
+use Rattle.record.specs.Calls.{state-of}
+use Rattle.opening.specs.ReplayCode.{Reached, reached-first, end-inside, reached-end, reached-broken, reached-next}
 use Rattle.opening.proofs.whole.replay_all.Statement.{statement}
 use Rattle.opening.proofs.whole.replay_all.Tie as tie
-use Rattle.opening.proofs.whole.replay_all.Reads as reads
-use Rattle.opening.proofs.whole.replay_all.Lts as lts
-use Rattle.opening.proofs.whole.refused.Reads as refused-reads
-use Rattle.opening.proofs.whole.replay.Reads as replay-reads
-use Rattle.text.proofs.line_end.Reads as line-end-reads
 
 abbrev Inv-loop : tie.InvT-loop
-Inv-loop bytes first terms₀ orders₀ state₀ at₀ number₀ terms orders state at number = ?
+Inv-loop bytes first terms₀ orders₀ state₀ at₀ number₀ terms orders state at number = Reached bytes first (state-of state₀ terms₀ orders₀) state terms orders at number
 
 abbrev μ-loop : tie.MeasureT-loop
-μ-loop bytes first terms₀ orders₀ state₀ at₀ number₀ terms orders state at number = ?
+μ-loop bytes first terms₀ orders₀ state₀ at₀ number₀ terms orders state at number = length bytes - at
 
--- src/whole.rt:94:5
 loop-holds : tie.Need-loop-holds Inv-loop μ-loop
-loop-holds c = search needs
+loop-holds c =
+    let entered = c .before .before .before in
+    reached-first (entered .pre)
 
--- src/whole.rt:95:13
 line-end-requires : tie.Need-line-end-requires Inv-loop μ-loop
 line-end-requires c κs = search needs
 
--- src/whole.rt:97:13
-returns : tie.Need-returns Inv-loop μ-loop
-returns c = search needs
+same-length : tie.Need-same-length Inv-loop μ-loop
+same-length c = search needs
 
--- src/whole.rt:104:33
+same-length-2 : tie.Need-same-length-2 Inv-loop μ-loop
+same-length-2 c = search needs
+
+returns : tie.Need-returns Inv-loop μ-loop
+returns c =
+    let at-line-end = c .before in
+    let at-loop = at-line-end .before in
+    reached-end (at-loop .loop .inv) (at-line-end .line-end .ensures) (c .if1 .taken)
+
 sub-replay : tie.Need-sub-replay Inv-loop μ-loop
 sub-replay c = search needs
 
--- src/whole.rt:104:33
 part-replay-start : tie.Need-part-replay-start Inv-loop μ-loop
 part-replay-start c = search needs
 
--- src/whole.rt:104:33
 part-replay-end : tie.Need-part-replay-end Inv-loop μ-loop
-part-replay-end c = search needs
+part-replay-end c =
+    let at-line-end = c .before in
+    let at-loop = at-line-end .before in
+    end-inside (at-loop .loop .inv) (at-line-end .line-end .ensures)
 
--- src/whole.rt:104:13
 replay-requires : tie.Need-replay-requires Inv-loop μ-loop
 replay-requires c κs = search needs
 
--- src/whole.rt:106:13
 refused-requires : tie.Need-refused-requires Inv-loop μ-loop
 refused-requires c κs = search needs
 
--- src/whole.rt:106:13
-returns-2 : tie.Need-returns-2 Inv-loop μ-loop
-returns-2 c = search needs
+same-length-3 : tie.Need-same-length-3 Inv-loop μ-loop
+same-length-3 c =
+    let at-replay = c .before .before .before .before .before .before .before in
+    let at-loop = at-replay .before .before .before .before .before .before in
+    let entered = at-loop .before .before .before .before in
+    at-replay .replay .kept .1 .1 .0 ∙ at-loop .loop .inv .lent .terms-long ∙ sym (entered .pre .lent .terms-long)
 
--- src/whole.rt:110:9
+same-length-4 : tie.Need-same-length-4 Inv-loop μ-loop
+same-length-4 c =
+    let at-replay = c .before .before .before .before .before .before .before in
+    let at-loop = at-replay .before .before .before .before .before .before in
+    let entered = at-loop .before .before .before .before in
+    at-replay .replay .kept .1 .1 .1 .0 ∙ at-loop .loop .inv .lent .orders-long ∙ sym (entered .pre .lent .orders-long)
+
+returns-2 : tie.Need-returns-2 Inv-loop μ-loop
+returns-2 c =
+    let at-if2 = c .before in
+    let at-replay = at-if2 .before .before .before .before .before .before in
+    let at-if1 = at-replay .before .before .before .before in
+    let at-line-end = at-if1 .before in
+    let at-loop = at-line-end .before in
+    reached-broken (at-loop .loop .inv) (at-line-end .line-end .ensures) (at-if1 .if1 .left) (at-replay .replay .ensures) (at-if2 .if2 .taken) (c .refused .ensures) _ _
+
 add-number : tie.Need-add-number Inv-loop μ-loop
 add-number c = search needs
 
--- src/whole.rt:94:5
 loop-less : tie.Need-loop-less Inv-loop μ-loop
-loop-less c = search needs
+loop-less c =
+    let at-if1 = c .before .before .before .before .before .before .before .before .before .before .before in
+    let at-line-end = at-if1 .before in
+    let at-loop = at-line-end .before in
+    omega (arith, end-inside (at-loop .loop .inv) (at-line-end .line-end .ensures), at-line-end .line-end .ensures, at-if1 .if1 .left)
 
--- src/whole.rt:94:5
 loop-again : tie.Need-loop-again Inv-loop μ-loop
-loop-again c = search needs
+loop-again c =
+    let at-if2 = c .before in
+    let at-replay = at-if2 .before .before .before .before .before .before in
+    let at-if1 = at-replay .before .before .before .before in
+    let at-line-end = at-if1 .before in
+    let at-loop = at-line-end .before in
+    let terms-long = at-replay .replay .kept .1 .1 .0 ∙ at-loop .loop .inv .lent .terms-long in
+    let orders-long = at-replay .replay .kept .1 .1 .1 .0 ∙ at-loop .loop .inv .lent .orders-long in
+    reached-next (at-loop .loop .inv) (at-line-end .line-end .ensures) (at-if1 .if1 .left) (at-replay .replay .ensures) (at-if2 .if2 .left)
+    (record { terms-long = terms-long; orders-long = orders-long })
 
 pub replay-all-spec : {M : Type 1} → statement M
 replay-all-spec =
@@ -69,12 +106,16 @@ replay-all-spec =
     μ-loop
     loop-holds
     line-end-requires
+    same-length
+    same-length-2
     returns
     sub-replay
     part-replay-start
     part-replay-end
     replay-requires
     refused-requires
+    same-length-3
+    same-length-4
     returns-2
     add-number
     loop-less
