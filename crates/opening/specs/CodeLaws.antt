@@ -3,7 +3,7 @@ use Prim.Native.Nat.{ℕ, suc, _+_, _*_, _≤_, _<_}
 use native.Mathlib.Omega.{arith}
 use mathlib.Core.Path.{_≡_, refl, sym, ap, _∙_}
 use mathlib.Core.Bool.{Bool, true, false, cond, _&&_, _||_, and-true, and-false}
-use mathlib.Core.List.{List, [], _∷_, _++_}
+use mathlib.Core.List.{List, [], _∷_}
 use lib.Dec.{eqb, ltb, leb}
 use lib.ListN.{length, take}
 use borrow.Author.Tests.{eqb-true, eqb-false, leb-true, eq-eqb, ne-eqb}
@@ -19,7 +19,7 @@ use Rattle.frames.specs.Clauses.{four}
 use Rattle.frames.specs.Laws.{length-listed}
 use Rattle.frames.specs.ReadingLaws.{line-run, listed-places, length-entries}
 use Rattle.raft.specs.SendLaws.{All}
-use Rattle.raft.specs.Record.{State, term-at, is-membership, is-vote}
+use Rattle.raft.specs.Record.{term-at, is-membership, is-vote}
 use Rattle.raft.specs.LentLaws.{length-entries-of}
 use Rattle.record.specs.declared.Record.{Record}
 use Rattle.record.specs.Calls.{entries-of, state-of}

@@ -1,15 +1,15 @@
 -- One line and all lines, as the code comes to them: the answer, the record's struct and the lent log. Assumes nothing.
-use Prim.Native.Nat.{ℕ, suc, _+_, _-_, _≤_, _<_, min}
+use Prim.Native.Nat.{ℕ, _+_, _-_, _≤_, _<_, min}
 use native.Mathlib.Nat.{add-zero, sub-zero}
 use native.Mathlib.Numerals.{add-one}
 use native.Mathlib.Omega.{arith}
 use mathlib.Core.Path.{_≡_, refl, sym, ap, _∙_}
 use mathlib.Core.Bool.{Bool, true, false, cond, _&&_, and-false, true≢false}
 use mathlib.Core.List.{List, [], _∷_, _++_}
-use lib.Dec.{eqb, leb}
+use lib.Dec.{leb}
 use lib.ListN.{length, take, drop, length-append, length-take, length-drop, take-append-drop}
 use lib.Seq.{length-take-le, drop-drop}
-use borrow.Author.Tests.{leb-true, lt-leb}
+use borrow.Author.Tests.{leb-true}
 use Rattle.digits.specs.Room.{over}
 use Rattle.digits.specs.Tests.{and-left, and-right}
 use Rattle.frames.specs.declared.Entry.{Entry}
@@ -30,7 +30,7 @@ use Rattle.record.specs.SameLaws.{record-same, lent-same, written-log}
 use Rattle.journal.specs.Lines.{lines, whole-bytes, count-in, line-shaped, line-in}
 use Rattle.journal.specs.LinesLaws.{lines-none, lines-first, counted-none, counted-line}
 use Rattle.journal.specs.Opening.{restarted, is-of-box, term-holds, vote-is, vote-stays, kept-holds, count-holds, entries-hold, allows, after}
-use Rattle.journal.specs.Opening.{Replayed, next, breaks, replayed, Opened, opened, headless, broken, go-on, replay}
+use Rattle.journal.specs.Opening.{Replayed, next, breaks, replayed, Opened, go-on, replay}
 use Rattle.opening.specs.declared.Told.{Told}
 use Rattle.opening.specs.declared.Replayed as declared
 use Rattle.opening.specs.declared.Opened as answers

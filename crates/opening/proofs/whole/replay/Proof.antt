@@ -1,7 +1,7 @@
 -- A line with no form, with too many entries, or that breaks a rule; or the next record and its log (`replay-next`).
 use borrow.Author.Needs.{needs}
 use native.Mathlib.Omega.{arith}
-use mathlib.Core.Path.{_≡_, sym, _∙_}
+use mathlib.Core.Path.{sym, _∙_}
 use borrow.Author.Tests.{not-true, not-false}
 use Rattle.journal.specs.Lines.{count-in}
 use Rattle.opening.specs.CodeLaws.{shaped-run, allowed-numbers}

@@ -1,7 +1,7 @@
 -- What was replayed and what is left make the whole opening (`Reached`); each turn takes a line.
 use borrow.Author.Needs.{needs}
 use native.Mathlib.Omega.{arith}
-use mathlib.Core.Path.{_≡_, sym, _∙_}
+use mathlib.Core.Path.{sym, _∙_}
 use Prim.Native.Nat.{_-_}
 use lib.ListN.{length}
 use Rattle.record.specs.Calls.{state-of}
