@@ -9,7 +9,8 @@ use Rattle.replay.proofs.later_lines.Statement.{statement}
 use Rattle.replay.proofs.later_lines.Tie as tie
 
 abbrev Inv-loop : tie.InvT-loop
-Inv-loop input₀ filled terms₀ orders₀ state₀ held₀ bytes₀ lines₀ turns₀ input terms orders state held bytes lines turns = (held ≤ length input) × (length input ≡ length input₀) × (state .last ≤ log-limit)
+Inv-loop input₀ filled terms₀ orders₀ state₀ held₀ bytes₀ lines₀ turns₀ input terms orders state held bytes lines turns =
+    (held ≤ length input) × (length input ≡ length input₀) × (state .last ≤ log-limit)
 
 abbrev μ-loop : tie.MeasureT-loop
 μ-loop input₀ filled terms₀ orders₀ state₀ held₀ bytes₀ lines₀ turns₀ input terms orders state held bytes lines turns = turns
