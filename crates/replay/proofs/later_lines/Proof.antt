@@ -1,16 +1,23 @@
 -- What is held never passes the block, nor the log its limit.
 use borrow.Author.Needs.{needs}
 use native.Mathlib.Omega.{arith}
-use Prim.Native.Nat.{_≤_}
+use Prim.Native.Nat.{ℕ, _≤_}
+use mathlib.Core.List.{List}
 use mathlib.Core.Path.{_≡_}
 use lib.ListN.{length, length-take}
 use Rattle.frames.specs.Limits.{log-limit}
+use Rattle.record.specs.declared.Record.{Record}
 use Rattle.replay.proofs.later_lines.Statement.{statement}
 use Rattle.replay.proofs.later_lines.Tie as tie
 
+record Held (input₀ : List ℕ) (state : Record) (input : List ℕ) (held : ℕ) : Type 0 where
+  within : held ≤ length input
+  long : length input ≡ length input₀
+  room : state .last ≤ log-limit
+
 abbrev Inv-loop : tie.InvT-loop
 Inv-loop input₀ filled terms₀ orders₀ state₀ held₀ bytes₀ lines₀ turns₀ input terms orders state held bytes lines turns =
-    (held ≤ length input) × (length input ≡ length input₀) × (state .last ≤ log-limit)
+    Held input₀ state input held
 
 abbrev μ-loop : tie.MeasureT-loop
 μ-loop input₀ filled terms₀ orders₀ state₀ held₀ bytes₀ lines₀ turns₀ input terms orders state held bytes lines turns = turns
@@ -24,7 +31,7 @@ slice-reshare-prefix-replay-lines c = search needs
 slice-aggregate-replay-lines : tie.Need-slice-aggregate-replay-lines Inv-loop μ-loop
 slice-aggregate-replay-lines c =
     let at-loop = c .before .before in
-    simp length-take (omega (arith, at-loop .loop .inv .0))
+    simp length-take (omega (arith, at-loop .loop .inv .within))
 
 replay-lines-requires : tie.Need-replay-lines-requires Inv-loop μ-loop
 replay-lines-requires c κs = search needs
@@ -42,13 +49,13 @@ returns : tie.Need-returns Inv-loop μ-loop
 returns c =
     let at-replay-lines = c .before .before .before .before .before in
     let at-loop = at-replay-lines .before .before .before .before .before in
-    at-replay-lines .replay-lines .ensures .room (at-loop .loop .inv .2)
+    at-replay-lines .replay-lines .ensures .room (at-loop .loop .inv .room)
 
 keep-requires : tie.Need-keep-requires Inv-loop μ-loop
 keep-requires c κs =
     let at-replay-lines = c .before .before .before .before .before .before in
     let at-loop = at-replay-lines .before .before .before .before .before in
-    (omega (arith, at-replay-lines .replay-lines .ensures .inside, length-take (at-loop .loop .held) (at-loop .loop .input)), at-loop .loop .inv .0)
+    (omega (arith, at-replay-lines .replay-lines .ensures .inside, length-take (at-loop .loop .held) (at-loop .loop .input)), at-loop .loop .inv .within)
 
 shorten-requires : tie.Need-shorten-requires Inv-loop μ-loop
 shorten-requires c κs = search needs
@@ -68,8 +75,12 @@ loop-again c =
     let at-keep = at-more .before .before .before .before .before .before in
     let at-replay-lines = at-keep .before .before .before .before .before .before .before in
     let at-loop = at-replay-lines .before .before .before .before .before in
-    let room = at-replay-lines .replay-lines .ensures .room (at-loop .loop .inv .2) in
-    (omega (arith, at-more .more .ensures .1, at-more .more .kept .0), omega (arith, at-more .more .kept .0, at-keep .keep .kept .0, at-loop .loop .inv .1), room)
+    let room = at-replay-lines .replay-lines .ensures .room (at-loop .loop .inv .room) in
+    record {
+      within = omega (arith, at-more .more .ensures .1, at-more .more .kept .0);
+      long = omega (arith, at-more .more .kept .0, at-keep .keep .kept .0, at-loop .loop .inv .long);
+      room = room;
+    }
 
 same-length-2 : tie.Need-same-length-2 Inv-loop μ-loop
 same-length-2 c = search needs
@@ -84,7 +95,7 @@ returns-3 : tie.Need-returns-3 Inv-loop μ-loop
 returns-3 c =
     let at-replay-lines = c .before .before .before .before .before .before .before .before .before .before .before .before .before .before .before .before in
     let at-loop = at-replay-lines .before .before .before .before .before in
-    at-replay-lines .replay-lines .ensures .room (at-loop .loop .inv .2)
+    at-replay-lines .replay-lines .ensures .room (at-loop .loop .inv .room)
 
 pub later-lines-spec : {M : Type 1} → statement M
 later-lines-spec =
