@@ -1,5 +1,6 @@
 -- A message as 17 numbers, for callers in C and Rust. Assumes nothing.
 use Prim.Native.Nat.{ℕ, _%_}
+use mathlib.Core.Path.{_≡_}
 use mathlib.Core.Bool.{Bool, cond, _&&_}
 use mathlib.Core.List.{List, [], _∷_}
 use lib.Dec.{ltb}
@@ -30,7 +31,7 @@ in-range n =
     && ltb (getD n 9 0) 4294967296 && ltb (getD n 11 0) 4294967296 && ltb (getD n 13 0) 4294967296 && ltb (getD n 15 0) 4294967296
 
 -- The fields that the numbers are. (The remainders change nothing where the numbers are in range.)
-unfoldable pub fields-in : List ℕ → Fields
+abbrev pub fields-in : List ℕ → Fields
 fields-in n =
     record {
       kind = getD n 0 0 % 256;
@@ -58,6 +59,10 @@ read-as refused n = record { refusal = 1; numbers = n }
 abbrev pub read-flat : List ℕ → List ℕ → ReadFlat
 read-flat s n = read-as (reading s) n
 
+-- As the contract says it: what was lent before, the answer, and what is lent behind it.
+abbrev pub Reads : (text n : List ℕ) → ℕ → (n' : List ℕ) → Type 0
+Reads text n r n' = _≡_ {A = ReadFlat} (record { refusal = r; numbers = n' }) (read-flat text n)
+
 -- 1 where a number does not fit its field; otherwise what the writer answers, and the room as it leaves it.
 pub record WroteFlat : Type 0 where
   pub refusal : ℕ
@@ -67,3 +72,6 @@ unfoldable pub write-flat : List ℕ → List ℕ → WroteFlat
 write-flat n room =
     cond (in-range n) (record { refusal = written (fields-in n) room .answer .refusal; room = written (fields-in n) room .room })
     (record { refusal = 1; room = room })
+
+abbrev pub Writes : (n room : List ℕ) → ℕ → (room' : List ℕ) → Type 0
+Writes n room r room' = _≡_ {A = WroteFlat} (record { refusal = r; room = room' }) (write-flat n room)

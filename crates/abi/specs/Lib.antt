@@ -2,5 +2,4 @@
 pub mod Flat
 pub mod Boxes
 pub mod BoxLaws
-pub mod Journals
 pub mod Laws
