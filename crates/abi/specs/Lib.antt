@@ -2,4 +2,5 @@
 pub mod Flat
 pub mod Boxes
 pub mod BoxLaws
+pub mod Journals
 pub mod Laws

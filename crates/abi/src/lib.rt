@@ -3,6 +3,7 @@
 // A message goes as 17 numbers: kind, from, to, term, index, prior, commit, reply, count, and a term and an order for each of
 // four entries, with 0 for what it does not have.
 mod boxes;
+mod journals;
 
 pub use boxes::box_handed_out;
 pub use boxes::box_order;
@@ -12,6 +13,8 @@ pub use boxes::box_start;
 pub use boxes::box_timeout;
 use frames::Entry;
 use frames::Fields;
+pub use journals::journal_open;
+pub use journals::journal_replay;
 ghost use mathlib.Core.Path.{_≡_};
 ghost use Rattle.abi.specs.Flat.{in-range, fields-in, flat, Reads, Writes};
 
