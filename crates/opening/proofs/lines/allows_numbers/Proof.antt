@@ -1,6 +1,5 @@
 -- The clauses are the definition's own.
 use borrow.Author.Needs.{needs}
-use mathlib.Core.Path.{_≡_, refl, sym, ap, _∙_}
 use Rattle.opening.proofs.lines.allows_numbers.Statement.{statement}
 use Rattle.opening.proofs.lines.allows_numbers.Tie as tie
 
@@ -16,9 +15,25 @@ cast-result-2 c = search needs
 add-result : tie.Need-add-result
 add-result c = search needs
 
+cast-result-3 : tie.Need-cast-result-3
+cast-result-3 c = search needs
+
+cast-result-4 : tie.Need-cast-result-4
+cast-result-4 c = search needs
+
 returns : tie.Need-returns
-returns c = rw (c .before .before .before .before .before .before .before .before .before .before .is-vote .ensures)
+returns c =
+    let at-is-vote = c .before .before .before .before .before .before .before .before .before .before in
+    rw (at-is-vote .is-vote .ensures)
 
 pub allows-numbers-spec : {M : Type 1} → statement M
 allows-numbers-spec =
-    tie.close (tie.spec is-vote-requires cast-result cast-result-2 add-result returns)
+    tie.close
+    (tie.spec
+    is-vote-requires
+    cast-result
+    cast-result-2
+    add-result
+    cast-result-3
+    cast-result-4
+    returns)
