@@ -31,7 +31,8 @@ returns-2 c =
     let at-in-range = at-if1 .before in
     let entered = at-in-range .before .before in
     let lent = entered .args in
-    write-fields (lent .numbers .now) (lent .room .now) (at-in-range .in-range .ensures) (at-if1 .if1 .left) (at-fields-in .fields-in .result) (at-write .write .result) (at-fields-in .fields-in .ensures) (at-write .write .ensures)
+    write-fields (lent .numbers .now) (lent .room .now) (at-in-range .in-range .ensures) (at-if1 .if1 .left)
+    (at-fields-in .fields-in .result) (at-write .write .result) (at-fields-in .fields-in .ensures) (at-write .write .ensures)
 
 pub frame-write-spec : {M : Type 1} → statement M
 frame-write-spec =

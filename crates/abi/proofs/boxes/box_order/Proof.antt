@@ -40,7 +40,8 @@ returns-2 c =
     let entered = at-box-range .before .before .before .before in
     let lent = entered .args in
     event-step (takes-order (lent .order)) (lent .n .now) (lent .terms .now) (lent .orders .now) (lent .journal .now) (lent .room .now) (lent .sizes .now)
-    (at-box-range .box-range .ensures) (at-if1 .if1 .left) (at-box-in .box-in .result) (at-order .order .result) (at-box-in .box-in .ensures) (at-order .order .ensures) (c .put-answer .ensures)
+    (at-box-range .box-range .ensures) (at-if1 .if1 .left)
+    (at-box-in .box-in .result) (at-order .order .result) (at-box-in .box-in .ensures) (at-order .order .ensures) (c .put-answer .ensures)
 
 pub box-order-spec : {M : Type 1} → statement M
 box-order-spec =
