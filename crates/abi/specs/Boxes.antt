@@ -9,7 +9,7 @@ use Rattle.record.specs.declared.Lead.{Lead}
 use Rattle.record.specs.declared.Record.{Record}
 use Rattle.node.specs.declared.Answer.{Answer}
 use Rattle.raft.specs.Event.{Event}
-use Rattle.record.specs.Calls.{Called, call, Begun, begun, handed}
+use Rattle.record.specs.Calls.{Called, call, begun, handed}
 
 -- Each number fits the field that it is for.
 abbrev pub small : List ℕ → ℕ → Bool
@@ -20,6 +20,12 @@ box-range n =
     ltb (getD n 0 0) 256 && ltb (getD n 1 0) 256 && ltb (getD n 2 0) 4294967296 && ltb (getD n 3 0) 256 && small n 4 && small n 5
     && ltb (getD n 6 0) 256 && ltb (getD n 7 0) 256 && small n 8 && small n 9 && small n 10 && small n 11 && small n 12 && small n 13
     && small n 14 && small n 15 && small n 16 && small n 17 && small n 18 && small n 19 && small n 20 && small n 21
+
+-- Seven numbers from a place on.
+abbrev pub seven-in : List ℕ → ℕ → List ℕ
+seven-in n at =
+    getD n at 0 % 65536 ∷ getD n (at + 1) 0 % 65536 ∷ getD n (at + 2) 0 % 65536 ∷ getD n (at + 3) 0 % 65536 ∷ getD n (at + 4) 0 % 65536
+    ∷ getD n (at + 5) 0 % 65536 ∷ getD n (at + 6) 0 % 65536 ∷ []
 
 -- The box that the numbers are. (The remainders change nothing where the numbers are in range.)
 abbrev pub box-in : List ℕ → Record
@@ -33,12 +39,7 @@ box-in n =
       commit = getD n 5 0 % 65536;
       role = getD n 6 0 % 256;
       votes = getD n 7 0 % 256;
-      lead = record {
-        next = getD n 8 0 % 65536 ∷ getD n 9 0 % 65536 ∷ getD n 10 0 % 65536 ∷ getD n 11 0 % 65536 ∷ getD n 12 0 % 65536
-            ∷ getD n 13 0 % 65536 ∷ getD n 14 0 % 65536 ∷ [];
-        matched = getD n 15 0 % 65536 ∷ getD n 16 0 % 65536 ∷ getD n 17 0 % 65536 ∷ getD n 18 0 % 65536 ∷ getD n 19 0 % 65536
-            ∷ getD n 20 0 % 65536 ∷ getD n 21 0 % 65536 ∷ [];
-      };
+      lead = record { next = seven-in n 8; matched = seven-in n 15 };
     }
 
 -- Seven numbers stored from a place on.

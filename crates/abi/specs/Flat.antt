@@ -5,12 +5,10 @@ use mathlib.Core.Bool.{Bool, cond, _&&_}
 use mathlib.Core.List.{List, [], _∷_}
 use lib.Dec.{ltb}
 use lib.ListN.{getD, set}
-use Rattle.frames.specs.declared.Entry.{Entry}
 use Rattle.frames.specs.declared.Fields.{Fields}
-use Rattle.frames.specs.Message.{Message}
 use Rattle.frames.specs.Fields.{no-entry, fields-of}
 use Rattle.frames.specs.Reading.{Reading, frame, refused, reading}
-use Rattle.frames.specs.Writing.{Wrote, written}
+use Rattle.frames.specs.Writing.{written}
 
 -- The numbers with the fields stored in their places.
 abbrev pub flat : Fields → List ℕ → List ℕ

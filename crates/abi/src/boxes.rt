@@ -73,7 +73,7 @@ pub fn box_in(n: &[u64; 22]) -> Record
 }
 
 // Stores seven numbers from a place on.
-fn put_seven(n: &mut [u64; 22], at: usize, list: [u16; 7])
+fn put_seven(n: &mut [u64; 22], at: usize, list: [u16; Record::BOXES])
     requires { ⌜ at ≤ 15 ⌝ }
     ensures { λ _. ⌜ now (n .exit) ≡ stored-7 (now (n .entry)) at list ⌝ }
 {
@@ -130,8 +130,8 @@ fn put_answer(n: &mut [u64; 22], sizes: &mut [u64; 2], a: Answer) -> u8
 #[no_mangle]
 pub extern "C" fn box_timeout(
     n: &mut [u64; 22],
-    terms: &[u32; 256],
-    orders: &[u64; 256],
+    terms: &[u32; Record::LOG],
+    orders: &[u64; Record::LOG],
     journal: &mut [u8],
     room: &mut [u8],
     sizes: &mut [u64; 2],
@@ -151,8 +151,8 @@ pub extern "C" fn box_timeout(
 #[no_mangle]
 pub extern "C" fn box_prompt(
     n: &mut [u64; 22],
-    terms: &[u32; 256],
-    orders: &[u64; 256],
+    terms: &[u32; Record::LOG],
+    orders: &[u64; Record::LOG],
     journal: &mut [u8],
     room: &mut [u8],
     sizes: &mut [u64; 2],
@@ -173,8 +173,8 @@ pub extern "C" fn box_prompt(
 pub extern "C" fn box_order(
     order: u64,
     n: &mut [u64; 22],
-    terms: &mut [u32; 256],
-    orders: &mut [u64; 256],
+    terms: &mut [u32; Record::LOG],
+    orders: &mut [u64; Record::LOG],
     journal: &mut [u8],
     room: &mut [u8],
     sizes: &mut [u64; 2],
@@ -195,8 +195,8 @@ pub extern "C" fn box_order(
 pub extern "C" fn box_receive(
     text: &[u8],
     n: &mut [u64; 22],
-    terms: &mut [u32; 256],
-    orders: &mut [u64; 256],
+    terms: &mut [u32; Record::LOG],
+    orders: &mut [u64; Record::LOG],
     journal: &mut [u8],
     room: &mut [u8],
     sizes: &mut [u64; 2],
@@ -232,8 +232,8 @@ pub extern "C" fn box_start(me: u8, mask: u8, n: &mut [u64; 22], room: &mut [u8]
 #[no_mangle]
 pub extern "C" fn box_handed_out(
     n: &[u64; 22],
-    terms: &[u32; 256],
-    orders: &[u64; 256],
+    terms: &[u32; Record::LOG],
+    orders: &[u64; Record::LOG],
     count: &mut u64,
 ) -> u8
     ensures { λ r. ⌜ Hands (now (n .entry)) (now (terms .entry)) (now (orders .entry)) (now (count .entry)) r (now (count .exit)) ⌝ }

@@ -4,6 +4,7 @@ use crate::boxes::box_range;
 use crate::boxes::put_box;
 use opening::Opened;
 use opening::Replayed;
+use record::Record;
 ghost use Rattle.abi.specs.Journals.{StoresOpen, FlatOpens, StoresReplay, FlatReplays};
 
 // The answer's number; where it is 0, the record's numbers and the bytes are stored, where it is 10, the line's number.
@@ -29,8 +30,8 @@ pub extern "C" fn journal_open(
     me: u8,
     text: &[u8],
     n: &mut [u64; 22],
-    terms: &mut [u32; 256],
-    orders: &mut [u64; 256],
+    terms: &mut [u32; Record::LOG],
+    orders: &mut [u64; Record::LOG],
     sizes: &mut [u64; 2],
 ) -> u8
     ensures { λ r. ⌜ FlatOpens me (now (text .entry)) (now (n .entry)) (now (terms .entry)) (now (orders .entry)) (now (sizes .entry)) r
@@ -57,8 +58,8 @@ fn put_replayed(n: &mut [u64; 22], o: Replayed) -> u8
 pub extern "C" fn journal_replay(
     text: &[u8],
     n: &mut [u64; 22],
-    terms: &mut [u32; 256],
-    orders: &mut [u64; 256],
+    terms: &mut [u32; Record::LOG],
+    orders: &mut [u64; Record::LOG],
 ) -> u8
     ensures { λ r. ⌜ FlatReplays (now (text .entry)) (now (n .entry)) (now (terms .entry)) (now (orders .entry)) r
         (now (n .exit)) (now (terms .exit)) (now (orders .exit)) ⌝ }
