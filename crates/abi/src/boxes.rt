@@ -86,6 +86,7 @@ fn put_seven(n: &mut [u64; 22], at: usize, list: [u16; Record::BOXES])
     n[at + 6] = list[6] as u64;
 }
 
+// Stores next and match.
 fn put_lead(n: &mut [u64; 22], lead: Lead)
     ensures { λ _. ⌜ now (n .exit) ≡ lead-flat lead (now (n .entry)) ⌝ }
 {
@@ -127,6 +128,7 @@ fn put_answer(n: &mut [u64; 22], sizes: &mut [u64; 2], a: Answer) -> u8
     refusal
 }
 
+// Each event: 12 where a number does not fit its field; otherwise the box's answer, stored. First the timeout.
 #[no_mangle]
 pub extern "C" fn box_timeout(
     n: &mut [u64; 22],
@@ -148,6 +150,7 @@ pub extern "C" fn box_timeout(
     put_answer(n, sizes, answer)
 }
 
+// A prompt.
 #[no_mangle]
 pub extern "C" fn box_prompt(
     n: &mut [u64; 22],
@@ -169,6 +172,7 @@ pub extern "C" fn box_prompt(
     put_answer(n, sizes, answer)
 }
 
+// An order.
 #[no_mangle]
 pub extern "C" fn box_order(
     order: u64,
@@ -191,6 +195,7 @@ pub extern "C" fn box_order(
     put_answer(n, sizes, answer)
 }
 
+// Bytes that came in.
 #[no_mangle]
 pub extern "C" fn box_receive(
     text: &[u8],
@@ -229,6 +234,7 @@ pub extern "C" fn box_start(me: u8, mask: u8, n: &mut [u64; 22], room: &mut [u8]
     refusal as u64
 }
 
+// How many entries are handed out, stored where the answer is 0.
 #[no_mangle]
 pub extern "C" fn box_handed_out(
     n: &[u64; 22],

@@ -25,6 +25,7 @@ fn put_opened(n: &mut [u64; 22], sizes: &mut [u64; 2], o: Opened) -> u8
     refusal
 }
 
+// Opens a whole journal.
 #[no_mangle]
 pub extern "C" fn journal_open(
     me: u8,
@@ -54,6 +55,7 @@ fn put_replayed(n: &mut [u64; 22], o: Replayed) -> u8
     refusal
 }
 
+// Replays one whole line, with its line feed, over the record that the numbers are; 12 where one does not fit its field.
 #[no_mangle]
 pub extern "C" fn journal_replay(
     text: &[u8],

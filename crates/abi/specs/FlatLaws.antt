@@ -1,4 +1,4 @@
--- What the proofs of the C functions use. Assumes nothing.
+-- What the proofs of a message's C functions use. Assumes nothing.
 use Prim.Native.Nat.{ℕ}
 use native.Mathlib.Omega.{arith}
 use mathlib.Core.Path.{_≡_, refl, sym, ap, _∙_}
