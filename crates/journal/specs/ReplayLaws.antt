@@ -102,7 +102,7 @@ written-more s t u bytes w (by-event e ms y o) = go (same-stored t u) refl
         }
     go false e =
         let line = line-text (line-of t u) in
-        let one = step-replayed t u (good-facts u k) f m in
+        let one = step-replayed t u (good-facts u k) f m e in
         record {
           its-lines = w .its-lines ++ (line ∷ []);
           is = rw (journaled-line t u e, strung-append (w .its-lines) (line ∷ []), w .is, append-nil);

@@ -1,6 +1,6 @@
 -- The key to replay: the line that a step writes obeys the rules of opening, and replays the stored part to the one after the step.
 -- Assumes nothing.
-use Prim.Native.Nat.{ℕ, _≤_}
+use Prim.Native.Nat.{ℕ, zero, suc, _≤_}
 use native.Mathlib.Omega.{arith}
 use mathlib.Core.Path.{_≡_, refl, sym, ap, _∙_}
 use mathlib.Core.Bool.{Bool, true, false, _&&_, _||_, true≢false}
@@ -66,14 +66,26 @@ module _ (s t : State) (k : Good t) (f : Fits t) (m : Moved s t) where
           let same : s .term ≡ t .term = omega (arith, m .rises, ltb-false (s .term) (t .term) p) in
           eq-eqb _ _ (m .stays same (eqb-false _ _ q))
 
+  -- a step that changes it ends in a term of at least 1
+  least-there : same-stored s t ≡ false → 1 ≤ t .term
+  unfolding restarted
+  least-there h = go (t .term) refl
+    where
+      go : (n : ℕ) → t .term ≡ n → 1 ≤ n
+      go zero e =
+          let o = m .least e in
+          let low : s .term ≡ 0 = omega (arith, m .rises) in
+          absurd (true≢false (sym (same-when s t (rw (m .mine, m .ours, e, low, o .0, o .1))) ∙ h))
+      go (suc n) e = omega arith
+
   -- The step's line obeys every rule behind the stored part before it,
-  pub step-allowed : Allowed (restarted s) (line-of s t)
+  pub step-allowed : same-stored s t ≡ false → Allowed (restarted s) (line-of s t)
   unfolding restarted line-of
-  step-allowed =
+  step-allowed h =
       let most = kept-most (s .log) (t .log) in
       record {
         box = m .mine;
-        least = m .least;
+        least = least-there h;
         rises = m .rises;
         vote = rw (← m .ours) (k .vote);
         stays = stays-there;
@@ -103,11 +115,11 @@ module _ (s t : State) (k : Good t) (f : Fits t) (m : Moved s t) where
   step-after = rw (← m .mine, ← m .ours, kept-rebuilds (s .log) (t .log))
 
   -- So the bytes of the line are replayed to it.
-  pub step-replayed : replayed (restarted s) (line-text (line-of s t)) ≡ next (restarted t)
+  pub step-replayed : same-stored s t ≡ false → replayed (restarted s) (line-text (line-of s t)) ≡ next (restarted t)
   unfolding replayed
-  step-replayed =
+  step-replayed h =
       let r = line-reads (line-of s t) step-sized in
-      rw (r .0, r .1, facts-allowed (restarted s) (line-of s t) step-allowed, step-after)
+      rw (r .0, r .1, facts-allowed (restarted s) (line-of s t) (step-allowed h), step-after)
 
   -- A step that changes nothing of the stored part leaves it,
   pub step-same : same-stored s t ≡ true → restarted s ≡ restarted t

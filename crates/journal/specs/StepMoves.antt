@@ -31,11 +31,11 @@ use Rattle.raft.specs.ReceiveLaws.{taken-by, taken-keeps, Ends, Arrives, receiv
 use Rattle.raft.specs.ReceiveLaws.{vote-request-ends, vote-answer-ends, append-ends, append-answer-ends}
 use Rattle.journal.specs.KeptLaws.{joined-few}
 
--- What a step may make of a record's stored part.
+-- What a step may make of a record's stored part: in term 0 nothing.
 pub record Moves (s : State) (me members term vote : ℕ) (log : List Entry) : Type 0 where
   pub mine : me ≡ s .me
   pub ours : members ≡ s .members
-  pub least : 1 ≤ term
+  pub least : term ≡ 0 → (vote ≡ s .vote) × (log ≡ s .log)
   pub rises : s .term ≤ term
   pub stays : s .term ≡ term → (s .vote ≡ 0 → ⊥) → vote ≡ s .vote
   pub few : length log ≤ kept (s .log) log + 4
@@ -43,10 +43,10 @@ pub record Moves (s : State) (me members term vote : ℕ) (log : List Entry) : T
 abbrev pub Moved : State → State → Type 0
 Moved s t = Moves s (t .me) (t .members) (t .term) (t .vote) (t .log)
 
--- Nothing, in a term of at least 1,
-moved-not : (s : State) → 1 ≤ s .term → Moved s s
-moved-not s l =
-    record { mine = refl; ours = refl; least = l; rises = omega arith; stays = λ e n. refl; few = omega (arith, kept-self (s .log)) }
+-- Nothing,
+moved-not : (s : State) → Moved s s
+moved-not s =
+    record { mine = refl; ours = refl; least = λ z. (refl, refl); rises = omega arith; stays = λ e n. refl; few = omega (arith, kept-self (s .log)) }
 
 -- or a term that is higher, with whatever vote.
 moved-up : (s : State) (term vote : ℕ) → s .term < term → Moves s (s .me) (s .members) term vote (s .log)
@@ -54,7 +54,7 @@ moved-up s term vote l =
     record {
       mine = refl;
       ours = refl;
-      least = omega arith;
+      least = λ z. absurd (omega arith);
       rises = omega arith;
       stays = λ e n. absurd (omega arith);
       few = omega (arith, kept-self (s .log));
@@ -66,7 +66,7 @@ moved-up s term vote l =
 timeout-moves : (s : State) → Good s → Ends (λ t ms. Moved s t) (timeout s)
 unfolding settle leading standing
 timeout-moves s g =
-    timeout-ends (λ t ms. Moved s t) s (λ r. moved-not s (self-voted s g (omega arith) .1))
+    timeout-ends (λ t ms. Moved s t) s (λ r. moved-not s)
     (λ c m. moved-up s (s .term + 1) (s .me) (omega arith)) (λ c m. moved-up s (s .term + 1) (s .me) (omega arith))
 
 -- an order,
@@ -77,7 +77,7 @@ order-moves o s g =
     (λ r l. record {
       mine = refl;
       ours = refl;
-      least = self-voted s g (omega arith) .1;
+      least = λ z. absurd (omega (arith, self-voted s g (omega arith) .1));
       rises = omega arith;
       stays = λ e n. refl;
       few = rw (kept-more (s .log) (record { term = s .term; order = o } ∷ []), length-append) (omega arith);
@@ -85,20 +85,25 @@ order-moves o s g =
 
 -- a prompt,
 prompt-moves : (s : State) → Good s → Ends (λ t ms. Moved s t) (prompt s)
-prompt-moves s g = prompt-ends (λ t ms. Moved s t) s (λ r. moved-not s (self-voted s g (omega arith) .1))
+prompt-moves s g = prompt-ends (λ t ms. Moved s t) s (λ r. moved-not s)
 
 -- ---- a frame
 
 -- a message's term taken
 moved-taken : (s : State) (term : ℕ) → 1 ≤ term → Moved s (taken term s)
 unfolding taking
-moved-taken s term l = taken-by (Moved s) term s (λ h. moved-up s term 0 h) (λ h. moved-not s (omega arith))
+moved-taken s term l = taken-by (Moved s) term s (λ h. moved-up s term 0 h) (λ h. moved-not s)
+
+-- which is then at least 1
+taken-least : (s : State) (term : ℕ) → 1 ≤ term → 1 ≤ taken term s .term
+unfolding taking
+taken-least s term l = taken-by (λ u. 1 ≤ u .term) term s (λ h. l) (λ h. omega arith)
 
 -- and then a vote, where it was free or is for the same
-moved-voting : (s t : State) (from : ℕ) → Moved s t → (eqb (t .vote) 0 || eqb (t .vote) from) ≡ true → Moved s (voting t from)
+moved-voting : (s t : State) (from : ℕ) → Moved s t → 1 ≤ t .term → (eqb (t .vote) 0 || eqb (t .vote) from) ≡ true → Moved s (voting t from)
 unfolding voting
-moved-voting s t from m free =
-    record { mine = m .mine; ours = m .ours; least = m .least; rises = m .rises; stays = λ e n. go e n (eqb (t .vote) 0) refl free; few = m .few }
+moved-voting s t from m l free =
+    record { mine = m .mine; ours = m .ours; least = λ z. absurd (omega arith); rises = m .rises; stays = λ e n. go e n (eqb (t .vote) 0) refl free; few = m .few }
   where
     go : s .term ≡ t .term → (s .vote ≡ 0 → ⊥) → (b : Bool) → eqb (t .vote) 0 ≡ b → (b || eqb (t .vote) from) ≡ true → from ≡ s .vote
     go e n true p f = absurd (n (sym (m .stays e n) ∙ eqb-true _ _ p))
@@ -115,7 +120,7 @@ moved-joining s term index prior commit es l n f =
     record {
       mine = m .mine;
       ours = m .ours;
-      least = m .least;
+      least = λ z. absurd (omega (arith, taken-least s term l));
       rises = m .rises;
       stays = m .stays;
       few = rw same (joined-few (s .log) index es there f);
@@ -128,22 +133,22 @@ deliver-moves s g (vote-request from to term index prior) a =
     let d = sent-by s (vote-request from to term index prior) a in
     let m = moved-taken s term (d .early) in
     vote-request-ends (λ t ms. Moved s t) s from to term index prior
-    (λ y. moved-voting s (taken term s) from m (y .free)) m
+    (λ y. moved-voting s (taken term s) from m (taken-least s term (d .early)) (y .free)) m
 deliver-moves s g (vote-answer from to term reply) a =
     let d = sent-by s (vote-answer from to term reply) a in
     vote-answer-ends (λ t ms. Moved s t) s from to term reply
-    (λ c m. moved-not s (omega (arith, c .same, d .early))) (λ c m. moved-not s (omega (arith, c .same, d .early)))
+    (λ c m. moved-not s) (λ c m. moved-not s)
     (moved-taken s term (d .early))
 deliver-moves s g (append from to term index prior commit es) a =
     let d = sent-by s (append from to term index prior commit es) a in
     let o = offer-facts from to term index prior commit es (a .obeyed) in
     append-ends (λ t ms. Moved s t) s from to term index prior commit es
-    (λ l. moved-not s (omega (arith, d .early))) (λ l n. moved-taken s term (d .early))
+    (λ l. moved-not s) (λ l n. moved-taken s term (d .early))
     (λ l n c. moved-joining s term index prior commit es (d .early) n (o .few))
 deliver-moves s g (append-answer from to term reply index) a =
     let d = sent-by s (append-answer from to term reply index) a in
     append-answer-ends (λ t ms. Moved s t) s from to term reply index
-    (λ h b. moved-not s (omega (arith, h .same, d .early))) (λ h b. moved-not s (omega (arith, h .same, d .early)))
+    (λ h b. moved-not s) (λ h b. moved-not s)
     (moved-taken s term (d .early))
 
 -- and so do any bytes.

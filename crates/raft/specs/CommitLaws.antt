@@ -15,8 +15,8 @@ use Rattle.frames.specs.Limits.{boxes}
 use Rattle.frames.specs.Rules.{is-box, follows, in-order}
 use Rattle.frames.specs.Fields.{no-entry}
 use Rattle.frames.specs.Clauses.{four}
-use Rattle.raft.specs.MajorityLaws.{at-box}
-use Rattle.raft.specs.Record.{State, last-index, term-at, of-box, good, is-membership, is-progress, sends-to, has-progress}
+use Rattle.raft.specs.Record.{State, last-index, term-at, of-box, good, is-progress, sends-to}
+use Rattle.raft.specs.RecordLaws.{good-facts, member-facts}
 use Rattle.raft.specs.Commit.{matches, matching, is-matched, highest, settled}
 
 -- ---- tests
@@ -105,23 +105,15 @@ sent-low false last next matched h = omega (arith, eqb-true matched 0 (and-right
 
 -- a good record has it
 pub ranged : (s : State) → good s ≡ true → Ranged s
-unfolding good is-membership
 ranged s h =
-    let last = four _ (has-progress s 5) (has-progress s 6) (has-progress s 7) h in
-    let sent = four _ (has-progress s 2) (has-progress s 3) (has-progress s 4) (last .0) in
-    let role = four _ _ _ (has-progress s 1) (sent .0) in
-    let log = four _ _ (in-order 0 (s .term) (s .log)) _ (role .0) in
-    let member = four (leb 1 (s .me)) (leb (s .me) boxes) _ _ (and-left _ _ (log .0)) in
+    let g = good-facts s h in
+    let m = member-facts (s .me) (s .members) (g .membership) in
     record {
-      low = at-box (λ i. of-box (s .lead .matched) i ≤ last-index s) (low 1 (role .3)) (low 2 (sent .1)) (low 3 (sent .2)) (low 4 (sent .3))
-          (low 5 (last .1)) (low 6 (last .2)) (low 7 (last .3));
-      me-least = leb-true 1 (s .me) (member .0);
-      me-most = leb-true (s .me) boxes (member .1);
-      ordered = log .2;
+      low = λ i l u. sent-low (sends-to s i) (last-index s) (of-box (s .lead .next) i) (of-box (s .lead .matched) i) (g .sent i l u);
+      me-least = m .least;
+      me-most = m .most;
+      ordered = g .order;
     }
-  where
-    low : (i : ℕ) → has-progress s i ≡ true → of-box (s .lead .matched) i ≤ last-index s
-    low i e = sent-low (sends-to s i) (last-index s) (of-box (s .lead .next) i) (of-box (s .lead .matched) i) e
 
 -- ---- terms never fall
 

@@ -10,7 +10,7 @@ use Rattle.frames.specs.Message.{Message, vote-request, vote-answer, append, ap
 use Rattle.frames.specs.Rules.{in-order, obeys}
 use Rattle.raft.specs.Majority.{holds, majority}
 use Rattle.raft.specs.Newer.{as-new}
-use Rattle.raft.specs.Record.{State, follower, leader, term-at, is-other, no-lead, good, is-membership, is-vote, is-role, are-votes, is-progress, sends-to}
+use Rattle.raft.specs.Record.{State, fresh, with-term, with-vote, with-log, with-commit, as-leader, term-at, is-other, good, is-membership, is-vote, is-role, are-votes, is-progress, sends-to}
 use Rattle.raft.specs.Commit.{matches, matching, is-matched, highest, settled}
 use Rattle.raft.specs.Outcome.{Outcome, done, refuse}
 use Rattle.raft.specs.AnyMessage.{taken}
@@ -27,17 +27,8 @@ log-of terms = map entry terms
 -- "mask 1f, leader in term 4, .. commit 1", the log's terms, and the index that "two others match".
 unfoldable pub leads : List ℕ → ℕ → State
 leads terms n =
-    record {
-      me = 1;
-      members = 0x1f;
-      term = 4;
-      vote = 1;
-      log = log-of terms;
-      commit = 1;
-      role = leader;
-      votes = 0;
-      lead = record { next = 0 ∷ (n + 1) ∷ (n + 1) ∷ 1 ∷ 1 ∷ 0 ∷ 0 ∷ []; matched = 0 ∷ n ∷ n ∷ 0 ∷ 0 ∷ 0 ∷ 0 ∷ [] };
-    }
+    as-leader (record { next = 0 ∷ (n + 1) ∷ (n + 1) ∷ 1 ∷ 1 ∷ 0 ∷ 0 ∷ []; matched = 0 ∷ n ∷ n ∷ 0 ∷ 0 ∷ 0 ∷ 0 ∷ [] })
+    (with-commit 1 (with-log (log-of terms) (with-vote 1 (with-term 4 (fresh 1 0x1f)))))
 
 -- A good record settles its commit at an index.
 unfoldable pub settles-at : State → ℕ → Bool
@@ -45,18 +36,7 @@ settles-at s n = good s && eqb (settled s) n
 
 -- "follower in term 4, its commit .., log terms 1,1,2": box 2 of mask 07.
 unfoldable pub follows-at : ℕ → State
-follows-at commit =
-    record {
-      me = 2;
-      members = 0x07;
-      term = 4;
-      vote = 0;
-      log = log-of (1 ∷ 1 ∷ 2 ∷ []);
-      commit = commit;
-      role = follower;
-      votes = 0;
-      lead = no-lead;
-    }
+follows-at commit = with-commit commit (with-log (log-of (1 ∷ 1 ∷ 2 ∷ [])) (with-term 4 (fresh 2 0x07)))
 
 -- "append of term 4, previous index 1 and term 1, one entry of term .., leader's commit ..", from box 1.
 unfoldable pub offer : (term commit : ℕ) → Message
@@ -139,7 +119,7 @@ readings =
 
 -- each reading holds, by computation
 pub readings-hold : every readings ≡ true
-unfolding readings leads settles-at majority ones good is-membership is-vote is-role are-votes is-progress sends-to is-other holds in-order
+unfolding readings fresh leads settles-at majority ones good is-membership is-vote is-role are-votes is-progress sends-to is-other holds in-order
     settled highest is-matched matching matches term-at follows-at offer joins-to alarms-at deliver term-of current on-append taken lacks agreed stop passes
     cuts-committed joined joining
 readings-hold = refl

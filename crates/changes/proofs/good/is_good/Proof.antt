@@ -46,17 +46,17 @@ all-progress-requires c κs = search needs
 
 returns-3 : tie.Need-returns-3
 returns-3 c =
-    let args = c .before .before .before .before .before .before .before .before .before .before .args in
-    let is-membership = c .before .before .before .before .before .before .before .is-membership in
-    let if2 = c .before .before .before .before .before .before .if2 in
-    let is-vote = c .before .before .before .before .before .is-vote in
-    let in-order = c .before .before .before .before .in-order in
-    let is-role = c .before .before .is-role in
-    let are-votes = c .before .are-votes in
-    let all-progress = c .all-progress in
+    let at-all-progress = c in
+    let at-are-votes = at-all-progress .before in
+    let at-is-role = at-are-votes .before in
+    let at-in-order = at-is-role .before .before in
+    let at-is-vote = at-in-order .before in
+    let at-if2 = at-is-vote .before in
+    let at-is-membership = at-if2 .before in
+    let args = at-is-membership .before .before .before .args in
     λ orders.
-    rw (is-vote .ensures, in-order .ensures, is-role .ensures, are-votes .ensures, all-progress .ensures)
-    (sym (good-by (args .n) (args .terms .now) orders (sym (is-membership .ensures) ∙ not-false _ (if2 .left)) (omega arith)))
+    rw (at-is-vote .is-vote .ensures, at-in-order .in-order .ensures, at-is-role .is-role .ensures, at-are-votes .are-votes .ensures, at-all-progress .all-progress .ensures)
+    (sym (good-by (args .n) (args .terms .now) orders (sym (at-is-membership .is-membership .ensures) ∙ not-false _ (at-if2 .if2 .left)) (omega arith)))
 
 pub is-good-spec : {M : Type 1} → statement M
 is-good-spec =
