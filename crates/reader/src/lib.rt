@@ -4,7 +4,7 @@ ghost use Prim.Native.Nat.{_+_, _-_, _≤_};
 ghost use mathlib.Core.Path.{_≡_};
 ghost use lib.ListN.{length, take, drop};
 ghost use Rattle.digits.specs.Room.{over};
-ghost use Rattle.opening.specs.Calls.{first-line};
+ghost use Rattle.text.specs.Lines.{first-line};
 ghost use Rattle.reader.specs.Blocks.{shortened};
 
 // Reads what there is behind what the block holds, and answers what it holds then: the same as before where the input has ended, or where the block is full.
@@ -63,7 +63,7 @@ pub fn whole_line(block: &mut [u8], filled: usize) -> Line
     let mut held = filled;
     let mut turns = u64::MAX;
     while turns > 0 {
-        let end = opening::line_end(&block[..held], 0);
+        let end = text::line_end(&block[..held], 0);
         if end != 0 {
             return Line { end, held };
         }

@@ -4,8 +4,8 @@ use native.Mathlib.Omega.{arith}
 use Prim.Native.Nat.{_≤_}
 use mathlib.Core.Path.{_≡_, refl}
 use lib.ListN.{length, take, length-take}
-use Rattle.opening.specs.Calls.{first-line}
-use Rattle.opening.specs.CodeLaws.{first-most}
+use Rattle.text.specs.Lines.{first-line}
+use Rattle.text.specs.LinesLaws.{first-most}
 use Rattle.reader.proofs.whole_line.Statement.{statement}
 use Rattle.reader.proofs.whole_line.Tie as tie
 
