@@ -17,7 +17,7 @@ use Rattle.frames.specs.Message.{entry-fields, spell, line-feed}
 use Rattle.frames.specs.WritingLaws.{length-spell, chars-entries}
 use Rattle.raft.specs.Lent.{entries-of}
 use Rattle.raft.specs.LentLaws.{length-entries-of, entries-more}
-use Rattle.record.specs.declared.Node.{Node}
+use Rattle.record.specs.declared.Record.{Record}
 use Rattle.record.specs.Calls.{state-of}
 use Rattle.console.specs.Session.{decimal-in, decimal}
 use Rattle.console.specs.Looking.{asks, asked-box, space, numbered, first-shown, entry-shown, log-shown, shown}
@@ -137,7 +137,7 @@ logged-next d {d₁} {d₂} at terms orders n h p q =
     digits = omega (arith, length-spell (entry-fields (next ∷ [])), chars-entries (next ∷ []))
 
 -- the first line, and the log behind it
-pub shown-put : (d : List ℕ) {d₁ d₂ : List ℕ} (bytes : ℕ) (b : Node) (terms orders : List ℕ) {first : ℕ} → 6484 ≤ length d → b .last ≤ 256
+pub shown-put : (d : List ℕ) {d₁ d₂ : List ℕ} (bytes : ℕ) (b : Record) (terms orders : List ℕ) {first : ℕ} → 6484 ≤ length d → b .last ≤ 256
     → first ≡ length (first-shown bytes (b .term) (b .vote) (b .last)) → first ≤ 84 → d₁ ≡ over d 0 (first-shown bytes (b .term) (b .vote) (b .last))
     → d₂ ≡ over d₁ first (log-shown (entries-of terms orders 0 (b .last)))
     → (first + 25 * b .last ≡ length (shown bytes (state-of b terms orders))) × (d₂ ≡ over d 0 (shown bytes (state-of b terms orders)))
