@@ -9,26 +9,26 @@ pub use lines::answer;
 pub use lines::begin;
 pub use looking::asked;
 pub use looking::show;
-use record::Node;
+use record::Record;
 
 // The first line's answer: false and nothing done where the room is shorter than the longest answer; whether a box was started; how many bytes are to be printed.
 pub struct Begun {
     pub fits: bool,
     pub started: bool,
-    pub node: Node,
+    pub state: Record,
     pub bytes: usize,
 }
 
 // A later line's answer: as above, with the next box.
 pub struct Answered {
     pub fits: bool,
-    pub node: Node,
+    pub state: Record,
     pub bytes: usize,
 }
 
 // What was made of a block of lines: the next box, how many bytes of whole lines were taken, and how many are to be printed.
 pub struct Taken {
-    pub node: Node,
+    pub state: Record,
     pub taken: usize,
     pub bytes: usize,
 }

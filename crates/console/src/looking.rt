@@ -1,6 +1,6 @@
 // The program `replay`: the box asked for, and a record as text.
 use crate::text::put_decimal;
-use record::Node;
+use record::Record;
 ghost use mathlib.Core.Path.{_≡_};
 ghost use Prim.Native.Nat.{_+_, _*_, _≤_};
 ghost use lib.ListN.{length};
@@ -70,7 +70,7 @@ fn put_log(room: &mut [u8], at: usize, terms: &[u32], orders: &[u64], last: usiz
 }
 
 // A record as text, at the room's start; answers its bytes. (An inside call: 6,484 bytes hold any record.)
-pub fn show(n: Node, bytes: u64, terms: &[u32], orders: &[u64], room: &mut [u8]) -> usize
+pub fn show(n: Record, bytes: u64, terms: &[u32], orders: &[u64], room: &mut [u8]) -> usize
     requires { ⌜ length (now terms) ≡ log-limit ⌝ }
     requires { ⌜ length (now orders) ≡ log-limit ⌝ }
     requires { ⌜ n .last ≤ log-limit ⌝ }
