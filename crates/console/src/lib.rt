@@ -2,7 +2,7 @@
 mod blocks;
 mod lines;
 mod looking;
-mod text;
+mod printing;
 
 pub use blocks::answer_lines;
 pub use lines::answer;

@@ -1,8 +1,8 @@
 // A line, and what the box answers.
 use crate::Answered;
 use crate::Begun;
-use crate::text::put;
-use crate::text::put_refusal;
+use crate::printing::put;
+use crate::printing::put_refusal;
 use record::Record;
 use record::Started;
 use record::Step;

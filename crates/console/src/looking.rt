@@ -1,5 +1,5 @@
 // The program `replay`: the box asked for, and a record as text.
-use crate::text::put_decimal;
+use crate::printing::put_decimal;
 use record::Record;
 ghost use mathlib.Core.Path.{_≡_};
 ghost use Prim.Native.Nat.{_+_, _*_, _≤_};

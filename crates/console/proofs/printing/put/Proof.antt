@@ -7,8 +7,8 @@ use lib.ListN.{length, take}
 use Rattle.digits.specs.Room.{over}
 use Rattle.digits.specs.RoomLaws.{over-nothing}
 use Rattle.console.specs.TextLaws.{put-next, put-all}
-use Rattle.console.proofs.text.put.Statement.{statement}
-use Rattle.console.proofs.text.put.Tie as tie
+use Rattle.console.proofs.printing.put.Statement.{statement}
+use Rattle.console.proofs.printing.put.Tie as tie
 
 abbrev Inv-loop : tie.InvT-loop
 Inv-loop room₀ at text i₀ room i = (i ≤ length text) × (length room ≡ length room₀) × (room ≡ over room₀ at (take i text))

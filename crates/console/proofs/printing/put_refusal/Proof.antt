@@ -3,8 +3,8 @@ use borrow.Author.Needs.{needs}
 use native.Mathlib.Omega.{arith}
 use lib.ListN.{length-set}
 use Rattle.console.specs.TextLaws.{refusal-long, refusal-put}
-use Rattle.console.proofs.text.put_refusal.Statement.{statement}
-use Rattle.console.proofs.text.put_refusal.Tie as tie
+use Rattle.console.proofs.printing.put_refusal.Statement.{statement}
+use Rattle.console.proofs.printing.put_refusal.Tie as tie
 
 slice-write-room : tie.Need-slice-write-room
 slice-write-room c = search needs
