@@ -50,18 +50,18 @@ shaped line h = rw (h, eq-eqb (box-in line) (box-in line) refl)
 -- it hands out none, and leaves the room
 pub record Nothing (answer : Started) (room room' : List ℕ) : Type 0 where
   pub state : answer .state ≡ none
-  pub room : room' ≡ room
+  pub kept : room' ≡ room
 
-pub start-none : {room : List ℕ} {st : Started} {room' : List ℕ} → _≡_ {A = calls.Begun} (record { answer = st; journal = room' }) (begun 0 0 room)
+pub start-none : (room : List ℕ) {st : Started} {room' : List ℕ} → _≡_ {A = calls.Begun} (record { answer = st; journal = room' }) (begun 0 0 room)
     → Nothing st room room'
 unfolding begun is-membership
-start-none e = record { state = ap (λ (x : calls.Begun). x .answer .state) e; room = ap (λ (x : calls.Begun). x .journal) e }
+start-none room e = record { state = ap (λ (x : calls.Begun). x .answer .state) e; kept = ap (λ (x : calls.Begun). x .journal) e }
 
 -- so room that is too short for any answer stays as it is
-pub begin-short : {line room : List ℕ} → length room < longest → {st : Started} {room' : List ℕ} → Nothing st room room'
+pub begin-short : (line room : List ℕ) → length room < longest → {st : Started} {room' : List ℕ} → Nothing st room room'
     → Begins line room (record { fits = false; started = false; state = st .state; bytes = 0 }) room'
 unfolding beginning
-begin-short {room = room} h e = rw (lt-leb longest (length room) h, e .state, e .room)
+begin-short line room h e = rw (lt-leb longest (length room) h, e .state, e .kept)
 
 -- ---- a start by a line
 
@@ -97,7 +97,7 @@ starts-by line room h = go (head-shaped line) refl
         )
     go false p = rw (starts-none line room p, unshaped line p)
 
-module _ {line room : List ℕ} (h : longest ≤ length room) {st : Started} {room' : List ℕ} (e : Starts line room st room') where
+module _ (line room : List ℕ) (h : longest ≤ length room) {st : Started} {room' : List ℕ} (e : Starts line room st room') where
   -- a start that is refused: 12 is printed
   pub start-bad : (st .refusal ≡ 0 → ⊥) → {room'' : List ℕ} {bytes : ℕ} → room'' ≡ over room' 0 (refusal-line 12) → bytes ≡ length (refusal-line 12)
       → Begins line room (record { fits = true; started = false; state = st .state; bytes = bytes }) room''
@@ -134,5 +134,5 @@ begin-most line room = go (leb longest (length room)) refl (is-start line) refl
     go true e false p = rw (e, p) (omega (arith, leb-true longest (length room) e, refusal-most 12))
     go false e m p = rw e (omega arith)
 
-pub begin-within : {line room : List ℕ} {x : Begun} {room' : List ℕ} → Begins line room x room' → x .bytes ≤ length room
-begin-within {line} {room} e = omega (arith, ap (λ (b : Beginning). b .answer .bytes) e, begin-most line room)
+pub begin-within : (line room : List ℕ) {x : Begun} {room' : List ℕ} → Begins line room x room' → x .bytes ≤ length room
+begin-within line room e = omega (arith, ap (λ (b : Beginning). b .answer .bytes) e, begin-most line room)

@@ -46,7 +46,7 @@ pub next-lent : (t : State) (terms orders : List ℕ) → state-of (record-of t)
 next-lent t terms orders =
     lent-same t (over terms 0 (terms-of (t .log))) (over orders 0 (orders-of (t .log))) (written-log (t .log) terms orders)
 
-module _ {known : Bool} {line : List ℕ} {b : Record} {terms orders room : List ℕ} (k : Known known b terms orders) where
+module _ {known : Bool} (line : List ℕ) {b : Record} {terms orders : List ℕ} (room : List ℕ) (k : Known known b terms orders) where
   -- whatever a line comes to
   said-known : (o : Outcome) → outcome-of line (state-of b terms orders) ≡ o
       → Known known (said o b terms orders room .answer .state) (said o b terms orders room .terms) (said o b terms orders room .orders)

@@ -21,11 +21,12 @@ use Rattle.journal.specs.LongestLaws.{Longest, longest-line, longest-messages, 
 use Rattle.record.specs.declared.Record.{Record}
 use Rattle.record.specs.declared.Step.{Step}
 use Rattle.record.specs.SizeLaws.{over-next}
-use Rattle.record.specs.Calls.{state-of, record-of, Called, untouched, fit, written, run, Runs}
+use Rattle.record.specs.Calls.{state-of, record-of, Called, untouched, fit, written, run, Runs, Ready}
 use Rattle.console.specs.Session.{event-of, outcome-of, refusal-line, printed}
-use Rattle.console.specs.Calls.{longest, Saying, said, saying, Says, Roomy}
+use Rattle.console.specs.Calls.{longest, Saying, said, saying, Says, Known, Roomy}
 use Rattle.console.specs.TextLaws.{taken-back}
 use Rattle.console.specs.LineLaws.{outcome-step, not-good}
+use Rattle.console.specs.GoodLaws.{known-stays}
 
 -- ---- what a line comes to
 
@@ -45,7 +46,7 @@ outcome-numbered line s = by-test (good s) _ _ (step-numbered (event-of line) s)
 
 -- ---- its step
 
-module _ {line : List ℕ} {b : Record} {terms orders journal messages : List ℕ} where
+module _ (line : List ℕ) {b : Record} {terms orders : List ℕ} (journal messages : List ℕ) where
   -- 12 at a record that is not good
   pub bad-left : good (state-of b terms orders) ≡ false → {answer : Step} → answer ≡ record { refusal = 12; state = b; line = 0; sent = 0 }
       → Runs (outcome-of line (state-of b terms orders)) b terms orders journal messages answer terms orders journal messages
@@ -53,11 +54,11 @@ module _ {line : List ℕ} {b : Record} {terms orders journal messages : List �
   bad-left g e = rw (not-good line (state-of b terms orders) g, e)
 
   -- at a good one what the event that it asks for leaves
-  pub event-left : (e : Event) → good (state-of b terms orders) ≡ true → event-of line ≡ e
+  pub event-left : Ready b terms orders → (e : Event) → event-of line ≡ e
       → {answer : Step} {terms' orders' journal' messages' : List ℕ}
       → Runs (step e (state-of b terms orders)) b terms orders journal messages answer terms' orders' journal' messages'
       → Runs (outcome-of line (state-of b terms orders)) b terms orders journal messages answer terms' orders' journal' messages'
-  event-left e g is left = rw (outcome-step line (state-of b terms orders) g, is) left
+  event-left k e is left = rw (outcome-step line (state-of b terms orders) (k .rules), is) left
 
 -- ---- its answer
 
@@ -66,8 +67,8 @@ pub record Sizes (answer : Step) : Type 0 where
   pub line : answer .line ≤ longest-line
   pub sent : answer .sent ≤ longest-messages
 
-module _ {line : List ℕ} {b : Record} {terms orders room aside : List ℕ} (roomy : Roomy room aside) {c : Called}
-    (e : c ≡ run (outcome-of line (state-of b terms orders)) b terms orders room aside) where
+module _ {known : Bool} (line : List ℕ) {b : Record} {terms orders room aside : List ℕ} (knows : Known known b terms orders) (roomy : Roomy room aside)
+    {c : Called} (e : c ≡ run (outcome-of line (state-of b terms orders)) b terms orders room aside) where
   abbrev s : State
   s = state-of b terms orders
 
@@ -111,8 +112,11 @@ module _ {line : List ℕ} {b : Record} {terms orders room aside : List ℕ} (ro
   pub said-done : c .answer .refusal ≡ 0 → {room' : List ℕ} → room' ≡ over (c .journal) (c .answer .line) (take (c .answer .sent) (c .messages))
       → Says b line terms orders room (record { fits = true; state = c .answer .state; bytes = c .answer .line + c .answer .sent })
       (c .terms) (c .orders) room'
+      × Known known (c .answer .state) (c .terms) (c .orders)
   unfolding saying said printed
-  said-done z {room'} r = go (outcome-of line s) refl
+  said-done z {room'} r =
+      let said' = go (outcome-of line s) refl in
+      (said', known-stays line room knows (roomy .answers) said')
     where
       go : (o : Outcome) → outcome-of line s ≡ o
           → Says b line terms orders room (record { fits = true; state = c .answer .state; bytes = c .answer .line + c .answer .sent })
@@ -136,8 +140,11 @@ module _ {line : List ℕ} {b : Record} {terms orders room aside : List ℕ} (ro
   pub said-refused : (c .answer .refusal ≡ 0 → ⊥) → {room' : List ℕ} {bytes : ℕ} → room' ≡ over (c .journal) 0 (refusal-line (c .answer .refusal))
       → bytes ≡ length (refusal-line (c .answer .refusal))
       → Says b line terms orders room (record { fits = true; state = c .answer .state; bytes = bytes }) (c .terms) (c .orders) room'
+      × Known known (c .answer .state) (c .terms) (c .orders)
   unfolding saying said
-  said-refused z {room'} {bytes} r l = go (outcome-of line s) refl
+  said-refused z {room'} {bytes} r l =
+      let said' = go (outcome-of line s) refl in
+      (said', known-stays line room knows (roomy .answers) said')
     where
       go : (o : Outcome) → outcome-of line s ≡ o
           → Says b line terms orders room (record { fits = true; state = c .answer .state; bytes = bytes }) (c .terms) (c .orders) room'
@@ -145,7 +152,7 @@ module _ {line : List ℕ} {b : Record} {terms orders room aside : List ℕ} (ro
       go (refuse n) p = rw (r, l, refused-left n p, le-leb longest (length room) (roomy .answers), p)
 
 -- room that is too short for any answer
-pub said-short : {line : List ℕ} {b : Record} {terms orders room : List ℕ} → length room < longest
+pub said-short : (line : List ℕ) {b : Record} {terms orders room : List ℕ} → length room < longest
     → Says b line terms orders room (record { fits = false; state = b; bytes = 0 }) terms orders room
 unfolding saying
-said-short {room = room} h = rw (lt-leb longest (length room) h)
+said-short line {room = room} h = rw (lt-leb longest (length room) h)

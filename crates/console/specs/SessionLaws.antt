@@ -58,7 +58,7 @@ module _ (line : List ℕ) (b : Record) (terms orders room : List ℕ) where
   leaves {known} k wide = go (outcome-of line s) refl
     where
       knows : Known known (saying b line terms orders room .answer .state) (saying b line terms orders room .terms) (saying b line terms orders room .orders)
-      knows = known-stays k wide refl
+      knows = known-stays line room k wide refl
 
       go : (o : Outcome) → outcome-of line s ≡ o → Leaves known (saying b line terms orders room)
       go (done t ms) e =
