@@ -1,5 +1,5 @@
 -- Configurations: one set of boxes, or two jointly. What may follow what, which are near each other, and that agreements under near ones share
--- a box. No law outside this file looks into an agreement. Assumes nothing.
+-- a box (`meets`). Outside this file agreements are made, mapped and met; one is opened once, where there is no member (`Views.nobody`). Assumes nothing.
 use Prim.Native.Nat.{ℕ, _<_}
 use mathlib.Core.Path.{_≡_, subst}
 use Rattle.history.specs.Most.{Most, Met, both, most-map}

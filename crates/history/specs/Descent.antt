@@ -13,7 +13,7 @@ use Rattle.history.specs.InForce.{Rule}
 use Rattle.history.specs.History.{Leaders, History, Won, Comes, Descends, Within, Leading, Facts}
 
 -- the term at 0 is 0
-pub term-zero : (log : List Entry) → term-at log 0 ≡ 0
+term-zero : (log : List Entry) → term-at log 0 ≡ 0
 unfolding term-at
 term-zero log = refl
 

@@ -1,5 +1,5 @@
--- An election: a candidate's votes all count where it has not won, and nobody else who could have won its term has: two who stand are one.
--- Assumes nothing.
+-- An election: a candidate to which those who agree said yes, and which has not won, wins. Each yes was granted, for it has not won; and nobody
+-- else has won its term, for two who could win one term are one box (`one-standing`). Assumes nothing.
 use Prim.Native.Nat.{ℕ, suc}
 use native.Mathlib.Omega.{arith}
 use mathlib.Core.List.{List}

@@ -20,16 +20,16 @@ use Rattle.history.specs.Later.{chained-later, moved-later}
 use Rattle.history.specs.GrowVotes.{raised-facts}
 
 -- What is to be shown of a box that moves on to term s with a log, and acknowledges index m.
-pub record MovesOn (h : History) (i s m : ℕ) (next : List Entry) : Type 0 where
-  pub higher : h .term i ≤ s
-  pub reaches : Reaches (h .leaders) s m
-  pub first : Begins (take m (h .leaders .log s)) next
-  pub descends : Descends (h .leaders) next
-  pub within : Within s next
-  pub keeps : (t n : ℕ) → h .acked i t n → Keeps (h .leaders) t n (suc s) next
+record MovesOn (h : History) (i s m : ℕ) (next : List Entry) : Type 0 where
+  higher : h .term i ≤ s
+  reaches : Reaches (h .leaders) s m
+  first : Begins (take m (h .leaders .log s)) next
+  descends : Descends (h .leaders) next
+  within : Within s next
+  keeps : (t n : ℕ) → h .acked i t n → Keeps (h .leaders) t n (suc s) next
 
 -- A box moves on. What it granted it granted in terms that it had reached, so its new acknowledgement is of none below them.
-pub moved-facts : {rule : Rule} {h : History} (i s m : ℕ) (next : List Entry) → Facts rule h → MovesOn h i s m next
+moved-facts : {rule : Rule} {h : History} (i s m : ℕ) (next : List Entry) → Facts rule h → MovesOn h i s m next
     → Facts rule (moved i s m next h)
 unfolding moved raised
 moved-facts {rule} {h} i s m next f x =
@@ -93,8 +93,8 @@ moved-facts {rule} {h} i s m next f x =
     reached j t n old (inr q) = rw (q .term, q .box, put-same (h .term) i s) (le-refl s)
 
 module _ {rule : Rule} {h : History} (f : Facts rule h) where
-  -- "what is cut differs from the sender's log, and the sender's log begins with B_u": what a box keeps of term t it keeps in the joined log,
-  -- or the sender's term was won with a log that lacks it
+  -- What is cut differs from the sender's log, and that begins with the log that won the sender's term. So what a box keeps of term t it keeps in the
+  -- joined log, or the sender's term was won with a log that lacks it.
   joined-keeps : {i s m : ℕ} {next : List Entry} → Won (h .leaders) s → h .term i ≤ s → Joins (h .log i) (h .leaders .log s) m next
       → (t n : ℕ) → h .acked i t n → Keeps (h .leaders) t n (suc s) next
   joined-keeps {i} {s} {m} {next} w l x t n a = go (f .keeps i t n a)

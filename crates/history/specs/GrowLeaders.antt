@@ -22,13 +22,13 @@ use Rattle.history.specs.Lineage.{settled-alike, follows-alike}
 use Rattle.history.specs.Later.{chained-later, led-later}
 
 -- What is to be shown of the leaders alone.
-pub record Lead (rule : Rule) (h : History) (more : Leaders) : Type 0 where
-  pub won-asked : (t c : ℕ) (start : List Entry) → more .won t c start → h .asked t c start
-  pub won-once : (t c d : ℕ) (start other : List Entry) → more .won t c start → more .won t d other → c ≡ d
-  pub winning : (t c : ℕ) (start : List Entry) → more .won t c start
+record Lead (rule : Rule) (h : History) (more : Leaders) : Type 0 where
+  won-asked : (t c : ℕ) (start : List Entry) → more .won t c start → h .asked t c start
+  won-once : (t c d : ℕ) (start other : List Entry) → more .won t c start → more .won t d other → c ≡ d
+  winning : (t c : ℕ) (start : List Entry) → more .won t c start
       → Agree (in-force rule start (length start)) (λ j. Granted (h .granted) j t c)
-  pub leading : (t c : ℕ) (start : List Entry) → more .won t c start → Leading more t start
-  pub chain : (t c : ℕ) (start : List Entry) → more .won t c start → Chained rule h t start (more .log t)
+  leading : (t c : ℕ) (start : List Entry) → more .won t c start → Leading more t start
+  chain : (t c : ℕ) (start : List Entry) → more .won t c start → Chained rule h t start (more .log t)
 
 -- what a voter keeps it keeps
 retains-grows : {l more : Leaders} {t n s c : ℕ} {log : List Entry} → Grows l more → Reaches l t n
@@ -37,7 +37,7 @@ retains-grows g r (retains k) = retains (keeps-grows g r k)
 retains-grows {s = s} g r (beaten d start w other lacks) = beaten d start (g .won s d start w) other (λ b. lacks (rw (first-grows g r) b))
 
 -- Where leaders' logs only grow, all else stays.
-pub lead-facts : {rule : Rule} {h : History} {more : Leaders} → Facts rule h → Grows (h .leaders) more → Lead rule h more
+lead-facts : {rule : Rule} {h : History} {more : Leaders} → Facts rule h → Grows (h .leaders) more → Lead rule h more
     → Facts rule (with-leaders more h)
 unfolding with-leaders
 lead-facts {rule} {h} {more} f g x =

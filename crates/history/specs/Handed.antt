@@ -37,48 +37,47 @@ hands-longer {n = n} b x =
 
 module _ {rule : Rule} {h : History} (f : Facts rule h) where
   -- the joined log begins with what was handed out, for the sender's log does
-  pub joins-handed : {own next : List Entry} {bound s m n : ℕ} → Hands rule h bound own n → Won (h .leaders) s → bound ≤ s
+  joins-handed : {own next : List Entry} {bound s m n : ℕ} → Hands rule h bound own n → Won (h .leaders) s → bound ≤ s
       → Joins own (h .leaders .log s) m next → Begins (take n own) next
   joins-handed {own} {n = n} x w l j = joins-keeps j (begins-take n own) (sender-holds f (x .covered) _ w l)
 
   -- "Commit becomes the larger of itself and the smaller of (leader's commit, previous index + count)": what it handed out, or a beginning of
   -- what the leader hands out
-  pub joins-hands : {own next : List Entry} {bound s m n k : ℕ} → Hands rule h bound own n → Reaches (h .leaders) s m → bound ≤ s
-      → Hands rule h s (h .leaders .log s) k → Joins own (h .leaders .log s) m next → Hands rule h s next (commit-after n k m)
-  joins-hands {own} {next} {bound} {s} {m} {n} {k} x r l y j = go (decLe (min k m) n)
+  pub joins-either : {own next : List Entry} {bound s m n : ℕ} (k : ℕ) → Hands rule h bound own n → Reaches (h .leaders) s m → bound ≤ s
+      → Joins own (h .leaders .log s) m next → (P : List Entry → Type 0) → P (take n own)
+      → ((log : List Entry) → Begins log (take k (h .leaders .log s)) → P log) → P (take (commit-after n k m) next)
+  joins-either {own} {next} {bound} {s} {m} {n} k x r l j P mine sender = go (decLe (min k m) n)
     where
+      log : List Entry
+      log = h .leaders .log s
+
       kept : Begins (take n own) next
       kept = joins-handed x (r .won) l j
 
-      own-long : length (take n own) ≡ n
-      own-long = length-take-le n own (x .within)
+      go : Dec (min k m ≤ n) → P (take (max n (min k m)) next)
+      go (yes a) =
+          let all : max n (min k m) ≡ n = omega arith in
+          rw (all, rw (length-take-le n own (x .within)) at (kept .first)) mine
+      go (no a) =
+          let all : max n (min k m) ≡ min k m = omega arith in
+          let first = begins-same (joins-first j) (min k m) (omega (arith, length-take-le m log (r .within))) in
+          rw (all, ← first, take-take (min k m) m log (omega arith), ← take-take (min k m) k log (omega arith))
+          (sender _ (begins-take (min k m) (take k log)))
 
-      sent-long : length (take m (h .leaders .log s)) ≡ m
-      sent-long = length-take-le m (h .leaders .log s) (r .within)
-
-      own-hands : Hands rule h s next n
-      own-hands =
-          record {
-            within = omega (arith, own-long, begins-long kept);
-            covered = rw (rw own-long at (kept .first)) (covered-less (x .covered) (take n own) (begins-self _) s l);
-          }
-
-      sent : (q : ℕ) → q ≤ m → q ≤ k → Hands rule h s next q
-      sent q a b =
-          let same = begins-same (joins-first j) q (omega (arith, sent-long)) in
-          record {
-            within = omega (arith, sent-long, begins-long (joins-first j));
-            covered =
-                rw (← same, take-take q m (h .leaders .log s) a, ← take-take q k (h .leaders .log s) b)
-                (covered-less (y .covered) _ (begins-take q _) s (le-refl s));
-          }
-
-      go : Dec (min k m ≤ n) → Hands rule h s next (max n (min k m))
-      go (yes a) = rw all own-hands
-        where
-          all : max n (min k m) ≡ n
-          all = omega arith
-      go (no a) = rw all (sent (min k m) (omega arith) (omega arith))
-        where
-          all : max n (min k m) ≡ min k m
-          all = omega arith
+  -- and that is covered
+  pub joins-hands : {own next : List Entry} {bound s m n k : ℕ} → Hands rule h bound own n → Reaches (h .leaders) s m → bound ≤ s
+      → Hands rule h s (h .leaders .log s) k → Joins own (h .leaders .log s) m next → Hands rule h s next (commit-after n k m)
+  joins-hands {own} {next} {bound} {s} {m} {n} {k} x r l y j =
+      record {
+        within =
+            omega (
+              arith,
+              length-take-le n own (x .within),
+              begins-long (joins-handed x (r .won) l j),
+              length-take-le m (h .leaders .log s) (r .within),
+              begins-long (joins-first j),
+            );
+        covered =
+            joins-either k x r l j (Covered rule h s) (covered-less (x .covered) _ (begins-self _) s l)
+            (λ log b. covered-less (y .covered) log b s (le-refl s));
+      }

@@ -111,7 +111,7 @@ module _ (own : List Entry) {sender es : List Entry} {index prior : ℕ} (o : Of
   offered-term i l = begins-term (o .piece) (suc i) l ∙ term-drop sender index i
 
   -- with what both begin the search has passed: behind it the terms differ, or the log ends
-  pub stop-past : passes own index es ≡ false → (part : List Entry) → Begins part own → Begins part sender → length part ≤ stop own index es
+  stop-past : passes own index es ≡ false → (part : List Entry) → Begins part own → Begins part sender → length part ≤ stop own index es
   unfolding passes stop
   stop-past p part b c = go (decLe (length part) (index + met own index es))
     where

@@ -1,4 +1,5 @@
--- What most members do. That two majorities share a box is `both`; no law outside this file looks into a majority. Assumes nothing.
+-- What most members do. That two majorities share a box is `both`. Outside this file a majority is opened once: of no members there is none
+-- (`Views.nobody`). Assumes nothing.
 use Prim.Native.Nat.{ℕ, _<_}
 use mathlib.Core.Path.{_≡_}
 use mathlib.Core.Bool.{true}

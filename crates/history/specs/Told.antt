@@ -56,7 +56,7 @@ module _ {rule : Rule} {h more : History} (f : Facts rule h) (later : Later h mo
   hands-later x = record { within = x .within; covered = covered-later f later (x .covered) }
 
   -- what a leader hands out, its log having grown
-  pub leader-hands-later : {t n : ℕ} → Won (h .leaders) t → Hands rule h t (h .leaders .log t) n → Hands rule more t (more .leaders .log t) n
+  leader-hands-later : {t n : ℕ} → Won (h .leaders) t → Hands rule h t (h .leaders .log t) n → Hands rule more t (more .leaders .log t) n
   leader-hands-later {t} w x = hands-longer (later .leaders .log t w) (hands-later x)
 
   -- each kind of frame

@@ -60,7 +60,14 @@ fn current(t: Record, f: Fields, terms: &[u32], orders: &[u64]) -> Decision
     if kind == Fields::APPEND {
         let entries = f.entries;
         return append(
-            t, f.from, f.index, f.prior, f.commit, entries, f.count, terms,
+            t,
+            f.from,
+            f.index,
+            f.prior,
+            f.commit,
+            entries,
+            f.count,
+            terms,
         );
     }
     append_answer(t, f.from, f.reply, f.index, terms, orders)

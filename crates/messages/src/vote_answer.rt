@@ -17,7 +17,8 @@ pub fn vote_answer(t: Record, from: u8, reply: u8, terms: &[u32], orders: &[u64]
     ensures { λ r. ⌜ ((offered : List Entry) → Decides (t .last) r offered (now (terms .entry)) (now (orders .entry))
         (on-vote-answer (state-of t (now (terms .entry)) (now (orders .entry))) from reply)) ⌝ }
 {
-    if (t.role != Record::CANDIDATE) | (reply != 1) {
+    let counts = (t.role == Record::CANDIDATE) & (reply == 1);
+    if !counts {
         return step(t, Send::Nothing);
     }
     let mut added = t;

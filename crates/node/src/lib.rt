@@ -29,7 +29,7 @@ pub struct Answer {
 }
 
 // A step's answer, with the box around its record.
-fn answer(done: Step) -> Answer
+fn boxed(done: Step) -> Answer
     ensures { λ r. ⌜ r ≡ record { refusal = done .refusal; node = record { state = done .state }; line = done .line; sent = done .sent } ⌝ }
 {
     let state = done.state;
@@ -77,9 +77,9 @@ impl Node {
     {
         let n = self.state;
         if !is_good(n, terms) {
-            return answer(finishing::refused(n, 12));
+            return boxed(finishing::refused(n, 12));
         }
-        answer(events::run_timeout(n, terms, orders, journal, messages))
+        boxed(events::run_timeout(n, terms, orders, journal, messages))
     }
 
     // "Order (leader). Entry with the current term, then an append to each other member."
@@ -96,9 +96,9 @@ impl Node {
     {
         let n = self.state;
         if !is_good(n, &terms[..]) {
-            return answer(finishing::refused(n, 12));
+            return boxed(finishing::refused(n, 12));
         }
-        answer(events::run_order(n, order, terms, orders, journal, messages))
+        boxed(events::run_order(n, order, terms, orders, journal, messages))
     }
 
     // "Prompt (leader): an append to each."
@@ -114,9 +114,9 @@ impl Node {
     {
         let n = self.state;
         if !is_good(n, terms) {
-            return answer(finishing::refused(n, 12));
+            return boxed(finishing::refused(n, 12));
         }
-        answer(events::run_prompt(n, terms, orders, journal, messages))
+        boxed(events::run_prompt(n, terms, orders, journal, messages))
     }
 
     // A frame's bytes, or any others: 1 where they are not one frame, 2 where it is not for this box, and then 01's rules for its kind.
@@ -133,11 +133,9 @@ impl Node {
     {
         let n = self.state;
         if !is_good(n, &terms[..]) {
-            return answer(finishing::refused(n, 12));
+            return boxed(finishing::refused(n, 12));
         }
-        answer(messages::run_bytes(
-            n, bytes, terms, orders, journal, messages,
-        ))
+        boxed(messages::run_bytes(n, bytes, terms, orders, journal, messages))
     }
 
     // "Handed out: entries 1 to commit": how many of the lent log's entries.

@@ -49,11 +49,11 @@ abbrev pub Refuses : (ℕ → Type 0) → Outcome → Type 0
 Refuses Q o = (n : ℕ) → o ≡ refuse n → Q n
 
 -- What is done is no refusal,
-pub refuses-done : (Q : ℕ → Type 0) (t : State) (ms : List Message) → Refuses Q (done t ms)
+refuses-done : (Q : ℕ → Type 0) (t : State) (ms : List Message) → Refuses Q (done t ms)
 refuses-done Q t ms n e = let never : _≡_ {A = ℕ} 0 1 = cc in absurd (omega arith)
 
 -- and a refusal has its number.
-pub refuses-with : (Q : ℕ → Type 0) (m : ℕ) → Q m → Refuses Q (refuse m)
+refuses-with : (Q : ℕ → Type 0) (m : ℕ) → Q m → Refuses Q (refuse m)
 refuses-with Q m q n e = let same : m ≡ n = cc in rw (← same) q
 
 -- ---- the messages

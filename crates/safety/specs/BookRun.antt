@@ -22,10 +22,10 @@ use Rattle.safety.specs.Runs.{parks, InBook, empty, begins}
 use Rattle.safety.specs.Booked.{Booked, in-book-less, quiet-booked, step-booked}
 
 -- A run with its history, and all that is handed out or carried in it in the book.
-pub record Park-told (mask : ℕ) {p : Park} (r : Reached mask p) : Type 1 where
-  pub history : History
-  pub carried : Carried mask history p
-  pub booked : Booked (InBook (parks mask) r) history (p .box) (p .sent)
+record Park-told (mask : ℕ) {p : Park} (r : Reached mask p) : Type 1 where
+  history : History
+  carried : Carried mask history p
+  booked : Booked (InBook (parks mask) r) history (p .box) (p .sent)
 
 -- What is in the book stays in it.
 in-book-on : {mask : ℕ} {p q : Park} {r : Reached mask p} (v : Move mask p q) (log : List Entry) → InBook (parks mask) r log

@@ -1,5 +1,5 @@
 -- Demand 3: "what any box hands out, also after replaying its journal, is a beginning of that book", over the runs of a site, power failing at any
--- byte. Assumes nothing.
+-- byte. As BookRun, but the book is what leaders had committed at moments of the site's own run. Assumes nothing.
 use Prim.Native.Nat.{ℕ, _+_}
 use mathlib.Core.Path.{_≡_, refl, sym, ap, subst, _∙_}
 use mathlib.Core.Bool.{true}
@@ -33,13 +33,13 @@ use Rattle.safety.specs.Booked.{Booked, in-book-less, quiet-booked, step
 use Rattle.safety.specs.BookRun.{restarted-hands}
 
 -- A run of a site, the park as which it stands, their history, and all that is handed out or carried in the book.
-pub record Site-told (mask : ℕ) {a : Site} (g : Goes mask (built mask) a) : Type 1 where
-  pub park : Park
-  pub reached : Reached mask park
-  pub mirrors : Mirrors mask a park
-  pub history : History
-  pub carried : Carried mask history park
-  pub booked : Booked (InBook (sites mask) g) history (λ j. a .seat j .now) (a .sent)
+record Site-told (mask : ℕ) {a : Site} (g : Goes mask (built mask) a) : Type 1 where
+  park : Park
+  reached : Reached mask park
+  mirrors : Mirrors mask a park
+  history : History
+  carried : Carried mask history park
+  booked : Booked (InBook (sites mask) g) history (λ j. a .seat j .now) (a .sent)
 
 -- What is in the book stays in it.
 in-book-on : {mask : ℕ} {a b : Site} {g : Goes mask (built mask) a} (v : Happens mask a b) (log : List Entry) → InBook (sites mask) g log

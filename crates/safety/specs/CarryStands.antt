@@ -6,7 +6,6 @@ use mathlib.Core.Bool.{true}
 use mathlib.Core.Logic.{_⊎_, inl, inr}
 use lib.Dec.{eqb}
 use borrow.Author.Tests.{eqb-true}
-use Rattle.frames.specs.Limits.{boxes}
 use Rattle.raft.specs.Majority.{majority}
 use Rattle.raft.specs.Record.{State, candidate, last-index, of-box, zeros}
 use Rattle.raft.specs.RecordLaws.{Member, member-facts}

@@ -49,7 +49,7 @@ pub record Mirrors (mask : ℕ) (a : Site) (p : Park) : Type 0 where
   pub lives : (i : ℕ) → is-membership i mask ≡ true → Life i mask (a .seat i .now) (a .seat i .place) (a .seat i .disk)
 
 -- One seat changes as the park's record does.
-pub mirrors-put : (mask : ℕ) (a : Site) (p : Park) (i : ℕ) (b : Seat) (t : State) (ms ns : List Message)
+mirrors-put : (mask : ℕ) (a : Site) (p : Park) (i : ℕ) (b : Seat) (t : State) (ms ns : List Message)
     → ((j : ℕ) → (j ≡ i → ⊥) → a .seat j .now ≡ p .box j)
     → ((j : ℕ) → is-membership j mask ≡ true → Life j mask (a .seat j .now) (a .seat j .place) (a .seat j .disk))
     → b .now ≡ t → Life i mask (b .now) (b .place) (b .disk) → Among (frames ms ++ a .sent) (frames ns ++ p .sent)

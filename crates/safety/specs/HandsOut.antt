@@ -1,12 +1,9 @@
 -- Where what a box hands out comes from, behind each move, and that what its appends carry is what it hands out. Assumes nothing.
-use Prim.Native.Nat.{ℕ, _+_, _≤_, max, min}
-use native.Mathlib.Decide.{decLe}
-use native.Mathlib.Omega.{arith}
+use Prim.Native.Nat.{ℕ, _+_, _≤_}
 use mathlib.Core.Path.{_≡_, refl}
 use mathlib.Core.Bool.{false}
 use mathlib.Core.List.{List}
 use lib.ListN.{length, take}
-use lib.Seq.{take-take, length-take-le}
 use Rattle.frames.specs.declared.Entry.{Entry}
 use Rattle.frames.specs.Message.{Message, vote-request, vote-answer, append, append-answer}
 use Rattle.raft.specs.Record.{State, leader, handed-out}
@@ -23,17 +20,18 @@ use Rattle.raft.specs.Append.{lacks, joined, following, commit-after, joining}
 use Rattle.raft.specs.AppendAnswer.{heard}
 use Rattle.raft.specs.ReceiveLaws.{taken-keeps, Looks}
 use Rattle.history.specs.InForce.{fixed}
-use Rattle.history.specs.Begins.{Begins, begins-same, begins-take}
+use Rattle.history.specs.Begins.{Begins}
 use Rattle.history.specs.History.{History}
 use Rattle.history.specs.Descent.{won-descends}
-use Rattle.history.specs.Join.{Joins, offered-long, joins-first, joined-joins}
-use Rattle.history.specs.Handed.{joins-handed}
+use Rattle.history.specs.Join.{offered-long, joined-joins}
+use Rattle.history.specs.Handed.{joins-either}
 use Rattle.history.specs.Told.{Sending, Tells, sending-won}
 use Rattle.safety.specs.Sent.{Sent}
 use Rattle.safety.specs.Endings.{Came, Ending, rests, stands, leads-alone, takes-up, prompts, takes, votes, votes-not, wins, counts, declines, wants, joins, hears, hears-again}
 use Rattle.safety.specs.Next.{Known}
 
--- It leads; or it is what the box handed out before, or a beginning of what an append that was sent carried.
+-- A box has moved from record s to t. It leads, and nothing is said here of what it hands out; or it hands out what it did before; or a beginning
+-- of what an append that was sent carried.
 pub data HandsOut (sent : List (List ℕ)) (h : History) (s t : State) : Type 0 where
   leads : t .role ≡ leader → HandsOut sent h s t
   same : handed-out t ≡ handed-out s → HandsOut sent h s t
@@ -46,33 +44,9 @@ joined-hands : {h : History} {s : State} (from term index prior commit : ℕ) (e
     → (P : List Entry → Type 0) → P (take (s .commit) (s .log))
     → ((log : List Entry) → Begins log (take commit (h .leaders .log term)) → P log)
     → P (take (commit-after (s .commit) commit (index + length es)) (joined (s .log) index es))
-joined-hands {h} {s} from term index prior commit es k sent l has P own sender = go (decLe (min commit m) n)
-  where
-    n : ℕ
-    n = s .commit
-
-    m : ℕ
-    m = index + length es
-
-    log : List Entry
-    log = h .leaders .log term
-
-    join : Joins (s .log) log m (joined (s .log) index es)
-    join = joined-joins (s .log) (sent .offered) has (rw (k .kept .log) at (k .facts .descends (s .me))) (won-descends (k .facts) (sending-won sent))
-
-    kept : Begins (take n (s .log)) (joined (s .log) index es)
-    kept = joins-handed (k .facts) (rw (k .kept .log) at (k .kept .hands)) (sending-won sent) l join
-
-    go : Dec (min commit m ≤ n) → P (take (max n (min commit m)) (joined (s .log) index es))
-    go (yes a) =
-        let all : max n (min commit m) ≡ n = omega arith in
-        rw (all, rw (length-take-le n (s .log) (rw (k .kept .log) at (k .kept .hands .within))) at (kept .first)) own
-    go (no a) =
-        let all : max n (min commit m) ≡ min commit m = omega arith in
-        let long = length-take-le m log (offered-long (sent .offered)) in
-        let first = begins-same (joins-first join) (min commit m) (omega arith) in
-        rw (all, ← first, take-take (min commit m) m log (omega arith), ← take-take (min commit m) commit log (omega arith))
-        (sender _ (begins-take (min commit m) (take commit log)))
+joined-hands {h} {s} from term index prior commit es k sent l has =
+    joins-either (k .facts) commit (rw (k .kept .log) at (k .kept .hands)) (record { won = sending-won sent; within = offered-long (sent .offered) }) l
+    (joined-joins (s .log) (sent .offered) has (rw (k .kept .log) at (k .facts .descends (s .me))) (won-descends (k .facts) (sending-won sent)))
 
 -- A term that is taken changes nothing of it.
 taken-same-hands : (term : ℕ) (s : State) → take (taken term s .commit) (taken term s .log) ≡ take (s .commit) (s .log)

@@ -6,7 +6,8 @@
 -- OneLeader to NoAlarms, what follows for the boxes of a park; HandsOut to BookRun, that what is handed out is in the book;
 -- DisksLaws to BookSite, the same over disks, and that each telling has the other's runs, record for record (DisksLaws, ParkOnDisk).
 -- Last, runs that are shown: a leader (Elects), an order that is committed and handed out (Commits), a second leader (Succeeds), and what would
--- happen if a torn step's messages left (Leaks). They also show false what three of the must-fail edits claim.
+-- happen if a torn step's messages left (Leaks). Three must-fail edits are shown false by them: any_term (`terms-differ`), holds_own_term
+-- (`own-term-not-held`) and torn_step_sends (`leaks`).
 pub mod Park
 pub mod Split
 pub mod Disks

@@ -26,13 +26,13 @@ use Rattle.history.specs.Told.{Tells, hands-later}
 use Rattle.safety.specs.Carried.{Kept}
 use Rattle.safety.specs.Grown.{Grown, grown-self, grown-trans, raised-grown}
 
--- What is known of a box and its history before a move,
+-- What is known of a box and its history before a move, and between two parts of one,
 pub record Known (h : History) (s : State) : Type 0 where
   pub facts : Facts (fixed (s .members)) h
   pub whole : Good s
   pub kept : Kept h s
 
--- and behind it, box i having moved: a history that has grown by its doing, in which it is kept and of which its messages tell.
+-- and what is shown behind it, box i having moved: a history that has grown by its doing, in which it is kept and of which its messages tell.
 pub record Next (mask i : ℕ) (h : History) (t : State) (messages : List Message) : Type 1 where
   pub history : History
   pub facts : Facts (fixed mask) history
@@ -96,7 +96,7 @@ following-next k a =
     a
 
 -- **A higher term is taken:** the box has voted for nobody in it, for it had not reached it.
-pub taking-known : {h : History} {s : State} (term : ℕ) → s .term < term → Known h s → Known (raised (s .me) term h) (taking term s)
+taking-known : {h : History} {s : State} (term : ℕ) → s .term < term → Known h s → Known (raised (s .me) term h) (taking term s)
 unfolding raised taking
 taking-known {h} {s} term l k =
     let o = k .kept in

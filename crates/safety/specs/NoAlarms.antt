@@ -20,7 +20,7 @@ use Rattle.history.specs.History.{History}
 use Rattle.history.specs.Handed.{Hands, hands-higher}
 use Rattle.history.specs.Told.{Tells}
 use Rattle.history.specs.Alarms.{no-rival, no-loss, no-excess}
-use Rattle.safety.specs.Park.{Park, start, Comes, Reached}
+use Rattle.safety.specs.Park.{Park, Comes, Reached}
 use Rattle.safety.specs.Sent.{Sent}
 use Rattle.safety.specs.Alarms.{Alarm, two-lead, cuts, past, quiet, event-alarms}
 use Rattle.safety.specs.Proper.{reached-proper}

@@ -14,7 +14,7 @@ use Rattle.history.specs.LeaderComplete.{leader-complete}
 use Rattle.history.specs.Book.{Covered, nothing, written, sender-holds, one-book}
 use Rattle.history.specs.Steps.{fresh-park}
 use Rattle.history.specs.Later.{covered-later}
-use Rattle.safety.specs.Park.{Park, start, Run, run-both, Reached, Leads}
+use Rattle.safety.specs.Park.{Park, Run, run-both, Reached, Leads}
 use Rattle.safety.specs.Proper.{reached-proper}
 use Rattle.safety.specs.Carried.{Carried}
 use Rattle.safety.specs.CarriedRun.{Onward, run-carried, reached-carried}
@@ -22,18 +22,18 @@ use Rattle.safety.specs.CarriedRun.{Onward, run-carried, reached-carried
 -- ---- the boxes and the history
 
 -- A term was won, and this is its log.
-pub record TermLog (h : History) (term : ℕ) (log : List Entry) : Type 0 where
-  pub won : Won (h .leaders) term
-  pub same : h .leaders .log term ≡ log
+record TermLog (h : History) (term : ℕ) (log : List Entry) : Type 0 where
+  won : Won (h .leaders) term
+  same : h .leaders .log term ≡ log
 
 module _ (mask : ℕ) {h : History} {p : Park} (r : Reached mask p) (c : Carried mask h p) where
   -- What a box hands out is covered, by a term that it has reached,
-  pub box-covered : (i : ℕ) → Covered (fixed mask) h (p .box i .term) (handed-out (p .box i))
+  box-covered : (i : ℕ) → Covered (fixed mask) h (p .box i .term) (handed-out (p .box i))
   unfolding handed-out
   box-covered i = rw (reached-proper mask p r i .ours, c .kept i .log) at (c .kept i .hands .covered)
 
   -- and a box that leads has won its term, of which its log is the log.
-  pub box-leads : (i term : ℕ) → Leads (p .box i) term → TermLog h term (p .box i .log)
+  box-leads : (i term : ℕ) → Leads (p .box i) term → TermLog h term (p .box i .log)
   box-leads i term l =
       let x = c .kept i .leads (l .role) in
       rw (← l .in-term) (record { won = record { box = p .box i .me; start = x .start; has = x .won }; same = x .log ∙ c .kept i .log })

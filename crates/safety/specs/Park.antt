@@ -44,8 +44,8 @@ after p i t messages = record { box = put (p .box) i t; sent = frames messages +
 
 -- One member's step, or its restart. A refusal changes nothing, so it is no move. "Power may fail at any byte of a journal line; a step counts,
 -- and its messages leave, only once its line, if any, is whole. Whole lines stay, and a box comes back only by its journal": a step whose line
--- is not whole has not happened, so it is no move either, and what a journal opens with is `restarted`. (`Disks` tells the same run with the bytes
--- on the disks, and `DisksLaws` shows that it is one of these.)
+-- is not whole has not happened, so it is no move either, and what a journal opens with is `restarted`. (`Disks` tells the run with the bytes on
+-- the disks. `DisksLaws` shows that each such run is one of these, record for record, and `ParkOnDisk` that each of these is such a run.)
 pub data Move (mask : ℕ) (p : Park) : Park → Type 0 where
   steps : (i : ℕ) → is-membership i mask ≡ true → (e : Event) → Comes (p .sent) e → (t : State) (messages : List Message)
       → step e (p .box i) ≡ done t messages → Move mask p (after p i t messages)

@@ -34,8 +34,11 @@ returns-2 c =
     let at-is-membership = at-if1 .before in
     let entered = at-is-membership .before .before in
     let long = head-long (entered .args .me) (entered .args .mask) in
-    rw (sym (at-is-membership .is-membership .ensures) ∙ not-false _ (at-if1 .if1 .left), c .fresh2 .ensures,
-    lt-leb (length (head (entered .args .me) (entered .args .mask))) (length (entered .args .journal .now)) (omega (arith, long, at-if2 .if2 .taken)))
+    rw (
+      sym (at-is-membership .is-membership .ensures) ∙ not-false _ (at-if1 .if1 .left),
+      c .fresh2 .ensures,
+      lt-leb (length (head (entered .args .me) (entered .args .mask))) (length (entered .args .journal .now)) (omega (arith, long, at-if2 .if2 .taken)),
+    )
 
 put-head-requires : tie.Need-put-head-requires
 put-head-requires c κs = search needs
@@ -55,8 +58,13 @@ returns-3 c =
     let at-is-membership = at-if1 .before in
     let entered = at-is-membership .before .before in
     let long = head-long (entered .args .me) (entered .args .mask) in
-    rw (sym (at-is-membership .is-membership .ensures) ∙ not-false _ (at-if1 .if1 .left), c .fresh3 .ensures, at-put-head .put-head .ensures,
-    le-leb (length (head (entered .args .me) (entered .args .mask))) (length (entered .args .journal .now)) (omega (arith, long, at-if2 .if2 .left)), long)
+    rw (
+      sym (at-is-membership .is-membership .ensures) ∙ not-false _ (at-if1 .if1 .left),
+      c .fresh3 .ensures,
+      at-put-head .put-head .ensures,
+      le-leb (length (head (entered .args .me) (entered .args .mask))) (length (entered .args .journal .now)) (omega (arith, long, at-if2 .if2 .left)),
+      long,
+    )
 
 pub start-spec : {M : Type 1} → statement M
 start-spec =

@@ -22,9 +22,10 @@ returns : tie.Need-returns
 unfolding timeout messages-of Aimed
 returns c =
     let at-if1 = c .before in
-    let entered = at-if1 .before .before .before .before in
-    (rw (c .step .ensures) (plain-decides (entered .args .n) [] (entered .args .terms .now) (entered .args .orders .now) Send.Nothing (ready-last (entered .pre)) tt (rw (eq-eqb _ _ (at-if1 .if1 .taken)))),
-    rw (c .step .ensures))
+    let entered = at-if1 .before .before .before .before in (
+      rw (c .step .ensures) (plain-decides (entered .args .n) [] (entered .args .terms .now) (entered .args .orders .now) Send.Nothing (ready-last (entered .pre)) tt (rw (eq-eqb _ _ (at-if1 .if1 .taken)))),
+      rw (c .step .ensures),
+    )
 
 refuse-requires : tie.Need-refuse-requires
 refuse-requires c κs = search needs
@@ -34,10 +35,11 @@ unfolding timeout
 returns-2 c =
     let at-if2 = c .before in
     let at-if1 = at-if2 .before .before in
-    let entered = at-if1 .before .before .before .before in
-    (rw (c .refuse .ensures) (refuse-decides (entered .args .n) [] (entered .args .terms .now) (entered .args .orders .now) 9 (ready-last (entered .pre)) (omega arith)
-    (rw (ne-eqb _ _ (at-if1 .if1 .left), eq-eqb _ _ (at-if2 .if2 .taken)))),
-    rw (c .refuse .ensures))
+    let entered = at-if1 .before .before .before .before in (
+      rw (c .refuse .ensures) (refuse-decides (entered .args .n) [] (entered .args .terms .now) (entered .args .orders .now) 9 (ready-last (entered .pre)) (omega arith)
+          (rw (ne-eqb _ _ (at-if1 .if1 .left), eq-eqb _ _ (at-if2 .if2 .taken)))),
+      rw (c .refuse .ensures),
+    )
 
 standing-requires : tie.Need-standing-requires
 standing-requires c κs =
@@ -58,9 +60,10 @@ won-requires c κs =
     let at-standing = c .before .before .before in
     let entered = at-standing .before .before .before .before .before .before .before in
     let stands = becomes-lent (at-standing .standing .ensures) (entered .args .terms .now) (entered .args .orders .now) in
-    let last = ready-last (entered .pre) in
-    (omega (arith, at-standing .standing .ensures .last, last),
-    (omega (arith, at-standing .standing .ensures .last, last, entered .pre .terms-long), rw stands (good-won _ (ready-good (entered .pre)))))
+    let last = ready-last (entered .pre) in (
+      omega (arith, at-standing .standing .ensures .last, last),
+      (omega (arith, at-standing .standing .ensures .last, last, entered .pre .terms-long), rw stands (good-won _ (ready-good (entered .pre)))),
+    )
 
 step-requires-2 : tie.Need-step-requires-2
 step-requires-2 c κs = search needs
@@ -77,10 +80,11 @@ returns-3 c =
     let at-if1 = at-if2 .before .before in
     let entered = at-if1 .before .before .before .before in
     let stands = becomes-lent (at-standing .standing .ensures) (entered .args .terms .now) (entered .args .orders .now) in
-    let most = sym (at-is-majority .is-majority .ensures) ∙ at-if3 .if3 .taken in
-    (rw (c .step2 .ensures) (changed-decides (entered .args .n) _ [] (entered .args .terms .now) (entered .args .orders .now) Send.Appends (at-won .won .ensures .1 ∙ at-standing .standing .ensures .last)
-    (ready-last (entered .pre)) tt (rw (at-won .won .ensures .0, stands, ne-eqb _ _ (at-if1 .if1 .left), ne-eqb _ _ (at-if2 .if2 .left), ← at-bit .bit .ensures, most))),
-    rw (c .step2 .ensures))
+    let most = sym (at-is-majority .is-majority .ensures) ∙ at-if3 .if3 .taken in (
+      rw (c .step2 .ensures) (changed-decides (entered .args .n) _ [] (entered .args .terms .now) (entered .args .orders .now) Send.Appends (at-won .won .ensures .1 ∙ at-standing .standing .ensures .last)
+          (ready-last (entered .pre)) tt (rw (at-won .won .ensures .0, stands, ne-eqb _ _ (at-if1 .if1 .left), ne-eqb _ _ (at-if2 .if2 .left), ← at-bit .bit .ensures, most))),
+      rw (c .step2 .ensures),
+    )
 
 step-requires-3 : tie.Need-step-requires-3
 step-requires-3 c κs = search needs
@@ -96,10 +100,11 @@ returns-4 c =
     let at-if1 = at-if2 .before .before in
     let entered = at-if1 .before .before .before .before in
     let stands = becomes-lent (at-standing .standing .ensures) (entered .args .terms .now) (entered .args .orders .now) in
-    let few = sym (at-is-majority .is-majority .ensures) ∙ at-if3 .if3 .left in
-    (rw (c .step3 .ensures) (changed-decides (entered .args .n) _ [] (entered .args .terms .now) (entered .args .orders .now) Send.Requests (at-standing .standing .ensures .last)
-    (ready-last (entered .pre)) tt (rw (stands, ne-eqb _ _ (at-if1 .if1 .left), ne-eqb _ _ (at-if2 .if2 .left), ← at-bit .bit .ensures, few))),
-    rw (c .step3 .ensures))
+    let few = sym (at-is-majority .is-majority .ensures) ∙ at-if3 .if3 .left in (
+      rw (c .step3 .ensures) (changed-decides (entered .args .n) _ [] (entered .args .terms .now) (entered .args .orders .now) Send.Requests (at-standing .standing .ensures .last)
+          (ready-last (entered .pre)) tt (rw (stands, ne-eqb _ _ (at-if1 .if1 .left), ne-eqb _ _ (at-if2 .if2 .left), ← at-bit .bit .ensures, few))),
+      rw (c .step3 .ensures),
+    )
 
 pub decide-spec : {M : Type 1} → statement M
 decide-spec =

@@ -1,45 +1,77 @@
+-- The definition's three cases.
 use borrow.Author.Needs.{needs}
+use native.Mathlib.Omega.{arith}
+use mathlib.Core.Path.{sym, _∙_}
+use Rattle.raft.specs.JoinLaws.{lacks-not}
+use Rattle.raft.specs.LentLaws.{length-entries-of}
+use Rattle.frames.specs.Fields.{listed}
+use Rattle.record.specs.declared.Send.{Send}
+use Rattle.record.specs.Calls.{state-of}
+use Rattle.record.specs.Deciding.{messages-of, Aimed}
+use Rattle.record.specs.DecidingLaws.{changed-decides, refuse-decides, decides-as, becomes-lent}
+use Rattle.messages.specs.AppendLaws.{append-leads, append-lacks, append-accepts}
 use Rattle.messages.proofs.append.append.Statement.{statement}
 use Rattle.messages.proofs.append.append.Tie as tie
-use Rattle.messages.proofs.append.append.Reads as reads
-use Rattle.messages.proofs.append.append.Lts as lts
-use Rattle.changes.proofs.refuse.Reads as refuse-reads
-use Rattle.changes.proofs.step.Reads as step-reads
-use Rattle.changes.proofs.following.Reads as following-reads
-use Rattle.messages.proofs.append.accept.Reads as accept-reads
-use Rattle.rules.proofs.lacks.Reads as lacks-reads
 
--- src/append.rt:80:9
 refuse-requires : tie.Need-refuse-requires
 refuse-requires c κs = search needs
 
--- src/append.rt:80:9
 returns : tie.Need-returns
-returns c = search needs
+returns c =
+    let at-if1 = c .before in
+    let entered = at-if1 .before .before .before in
+    let t = entered .args .t in
+    let terms = entered .args .terms .now in
+    λ orders. rw (c .refuse .ensures)
+    (refuse-decides t (entered .args .entries) terms orders 6 (entered .pre .lent .last) (omega arith)
+    (append-leads (state-of t terms orders) (entered .args .from) (entered .args .index) (entered .args .prior) (entered .args .commit) _ (at-if1 .if1 .taken)))
 
--- src/append.rt:82:8
 lacks-requires : tie.Need-lacks-requires
-lacks-requires c κs = search needs
+lacks-requires c κs =
+    let entered = c .before .before .before in
+    omega (arith, entered .pre .lent .long, entered .pre .lent .last)
 
--- src/append.rt:88:21
 following-requires : tie.Need-following-requires
 following-requires c κs = search needs
 
--- src/append.rt:88:9
 step-requires : tie.Need-step-requires
 step-requires c κs = search needs
 
--- src/append.rt:88:9
 returns-2 : tie.Need-returns-2
-returns-2 c = search needs
+unfolding messages-of Aimed
+returns-2 c =
+    let at-following = c .before in
+    let at-if2 = at-following .before in
+    let at-lacks = at-if2 .before in
+    let at-if1 = at-lacks .before in
+    let entered = at-if1 .before .before .before in
+    let t = entered .args .t in
+    let terms = entered .args .terms .now in
+    λ orders. rw (c .step .ensures)
+    (changed-decides t _ (entered .args .entries) terms orders (Send.AppendAnswer (entered .args .from) 0 0) (at-following .following .ensures .last) (entered .pre .lent .last) tt
+    (append-lacks (state-of t terms orders) (entered .args .from) (entered .args .index) (entered .args .prior) (entered .args .commit) _ (at-if1 .if1 .left)
+    _ (becomes-lent (at-following .following .ensures) terms orders) (sym (at-lacks .lacks .ensures orders) ∙ at-if2 .if2 .taken)))
 
--- src/append.rt:90:5
 accept-requires : tie.Need-accept-requires
-accept-requires c κs = search needs
+accept-requires c κs =
+    let at-lacks = c .before in
+    let entered = at-lacks .before .before .before .before in
+    let t = entered .args .t in
+    let terms = entered .args .terms .now in
+    let there = lacks-not _ (entered .args .index) (entered .args .prior) (sym (at-lacks .lacks .ensures terms) ∙ c .if2 .left) .0 in
+    (entered .pre, omega (arith, there, length-entries-of terms terms 0 (t .last)))
 
--- src/append.rt:65:1
 returns-3 : tie.Need-returns-3
-returns-3 c = search needs
+returns-3 c =
+    let at-if2 = c .before in
+    let at-lacks = at-if2 .before in
+    let at-if1 = at-lacks .before in
+    let entered = at-if1 .before .before .before in
+    let t = entered .args .t in
+    let terms = entered .args .terms .now in
+    λ orders. decides-as (c .accept .ensures orders)
+    (append-accepts (state-of t terms orders) (entered .args .from) (entered .args .index) (entered .args .prior) (entered .args .commit) _ (at-if1 .if1 .left)
+    (sym (at-lacks .lacks .ensures orders) ∙ at-if2 .if2 .left))
 
 pub append-spec : {M : Type 1} → statement M
 append-spec =

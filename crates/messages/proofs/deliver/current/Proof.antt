@@ -1,44 +1,62 @@
-use borrow.Author.Needs.{needs}
+-- Each kind's decision is the definition's for that kind.
+use native.Mathlib.Omega.{arith}
+use Rattle.frames.specs.WritingLaws.{whole}
+use Rattle.record.specs.Calls.{state-of}
+use Rattle.record.specs.DecidingLaws.{decides-as}
+use Rattle.messages.specs.DeliverLaws.{current-1, current-2, current-3, current-4, delivered-lent, delivered-from, delivered-offered}
 use Rattle.messages.proofs.deliver.current.Statement.{statement}
 use Rattle.messages.proofs.deliver.current.Tie as tie
-use Rattle.messages.proofs.deliver.current.Reads as reads
-use Rattle.messages.proofs.deliver.current.Lts as lts
-use Rattle.messages.proofs.append.append.Reads as append-reads
-use Rattle.messages.proofs.append_answer.append_answer.Reads as append-answer-reads
-use Rattle.messages.proofs.vote_answer.vote_answer.Reads as vote-answer-reads
-use Rattle.messages.proofs.vote_request.vote_request.Reads as vote-request-reads
 
--- src/deliver.rt:55:9
 vote-request-requires : tie.Need-vote-request-requires
-vote-request-requires c κs = search needs
+vote-request-requires c κs =
+    let entered = c .before .before .before in
+    delivered-lent (entered .pre)
 
--- src/deliver.rt:55:9
 returns : tie.Need-returns
-returns c = search needs
+returns c =
+    let at-if1 = c .before in
+    let entered = at-if1 .before .before .before in
+    decides-as (c .vote-request .ensures (entered .args .f .entries) (entered .args .orders .now))
+    (current-1 (entered .args .f) (state-of (entered .args .t) (entered .args .terms .now) (entered .args .orders .now)) (at-if1 .if1 .taken))
 
--- src/deliver.rt:58:9
 vote-answer-requires : tie.Need-vote-answer-requires
-vote-answer-requires c κs = search needs
+vote-answer-requires c κs =
+    let entered = c .before .before .before .before in
+    delivered-from (entered .pre)
 
--- src/deliver.rt:58:9
 returns-2 : tie.Need-returns-2
-returns-2 c = search needs
+returns-2 c =
+    let at-if2 = c .before in
+    let entered = at-if2 .before .before .before .before in
+    decides-as (c .vote-answer .ensures (entered .args .f .entries))
+    (current-2 (entered .args .f) (state-of (entered .args .t) (entered .args .terms .now) (entered .args .orders .now)) (at-if2 .if2 .taken))
 
--- src/deliver.rt:62:9
 append-requires : tie.Need-append-requires
-append-requires c κs = search needs
+append-requires c κs =
+    let at-if3 = c .before in
+    let entered = at-if3 .before .before .before .before .before in
+    delivered-offered (entered .pre) (at-if3 .if3 .taken)
 
--- src/deliver.rt:62:9
 returns-3 : tie.Need-returns-3
-returns-3 c = search needs
+returns-3 c =
+    let at-if3 = c .before .before in
+    let entered = at-if3 .before .before .before .before .before in
+    decides-as (c .append .ensures (entered .args .orders .now))
+    (current-3 (entered .args .f) (state-of (entered .args .t) (entered .args .terms .now) (entered .args .orders .now)) (at-if3 .if3 .taken))
 
--- src/deliver.rt:66:5
 append-answer-requires : tie.Need-append-answer-requires
-append-answer-requires c κs = search needs
+append-answer-requires c κs =
+    let entered = c .before .before .before .before .before in
+    delivered-from (entered .pre)
 
--- src/deliver.rt:48:1
 returns-4 : tie.Need-returns-4
-returns-4 c = search needs
+returns-4 c =
+    let at-if3 = c .before in
+    let at-if2 = at-if3 .before in
+    let at-if1 = at-if2 .before in
+    let entered = at-if1 .before .before .before in
+    decides-as (c .append-answer .ensures (entered .args .f .entries))
+    (current-4 (entered .args .f) (state-of (entered .args .t) (entered .args .terms .now) (entered .args .orders .now)) (at-if1 .if1 .left) (at-if2 .if2 .left) (at-if3 .if3 .left))
 
 pub current-spec : {M : Type 1} → statement M
 current-spec =

@@ -1,31 +1,39 @@
+-- A lower term is stale; otherwise the record with the term taken, and its kind.
 use borrow.Author.Needs.{needs}
+use native.Mathlib.Omega.{arith}
+use Rattle.record.specs.Calls.{state-of}
+use Rattle.record.specs.DecidingLaws.{decides-as}
+use Rattle.record.specs.GoodLaws.{ready-last}
+use Rattle.messages.specs.DeliverLaws.{deliver-low, taken-decides, delivered-taken}
 use Rattle.messages.proofs.deliver.deliver.Statement.{statement}
 use Rattle.messages.proofs.deliver.deliver.Tie as tie
-use Rattle.messages.proofs.deliver.deliver.Reads as reads
-use Rattle.messages.proofs.deliver.deliver.Lts as lts
-use Rattle.changes.proofs.taken.Reads as taken-reads
-use Rattle.messages.proofs.deliver.current.Reads as current-reads
-use Rattle.messages.proofs.deliver.stale.Reads as stale-reads
 
--- src/deliver.rt:76:9
 stale-requires : tie.Need-stale-requires
-stale-requires c κs = search needs
+stale-requires c κs =
+    let entered = c .before .before .before .before .before in
+    ready-last (entered .pre .read .ready)
 
--- src/deliver.rt:76:9
 returns : tie.Need-returns
-returns c = search needs
+returns c =
+    let at-if1 = c .before in
+    let entered = at-if1 .before .before .before .before .before in
+    decides-as (c .stale .ensures (entered .args .f .entries) (entered .args .terms .now) (entered .args .orders .now))
+    (deliver-low (entered .args .f) (state-of (entered .args .n) (entered .args .terms .now) (entered .args .orders .now)) (at-if1 .if1 .taken))
 
--- src/deliver.rt:78:13
 taken-requires : tie.Need-taken-requires
 taken-requires c κs = search needs
 
--- src/deliver.rt:78:5
 current-requires : tie.Need-current-requires
-current-requires c κs = search needs
+current-requires c κs =
+    let entered = c .before .before .before .before .before .before in
+    delivered-taken (entered .pre) _ (c .taken .ensures)
 
--- src/deliver.rt:70:1
 returns-2 : tie.Need-returns-2
-returns-2 c = search needs
+returns-2 c =
+    let at-taken = c .before in
+    let at-if1 = at-taken .before in
+    let entered = at-if1 .before .before .before .before .before in
+    taken-decides (entered .args .n) _ (entered .args .f) (entered .args .terms .now) (entered .args .orders .now) (at-taken .taken .ensures) (omega (arith, at-if1 .if1 .left)) (c .current .ensures)
 
 pub deliver-spec : {M : Type 1} → statement M
 deliver-spec =

@@ -1,17 +1,16 @@
-use borrow.Author.Needs.{needs}
+-- The clauses are the definition's own.
+use Rattle.raft.specs.Receive.{is-for}
 use Rattle.messages.proofs.deliver.is_for.Statement.{statement}
 use Rattle.messages.proofs.deliver.is_for.Tie as tie
-use Rattle.messages.proofs.deliver.is_for.Reads as reads
-use Rattle.messages.proofs.deliver.is_for.Lts as lts
-use Rattle.rules.proofs.is_other.Reads as is-other-reads
 
--- src/deliver.rt:86:20
 is-other-requires : tie.Need-is-other-requires
-is-other-requires c κs = search needs
+is-other-requires c κs =
+    let entered = c .before in
+    (entered .pre .least, entered .pre .most)
 
--- src/deliver.rt:82:1
 returns : tie.Need-returns
-returns c = search needs
+unfolding is-for
+returns c = λ terms orders. rw (c .is-other .ensures)
 
 pub is-for-spec : {M : Type 1} → statement M
 is-for-spec = tie.close (tie.spec is-other-requires returns)

@@ -1,52 +1,68 @@
+-- No frame is 1; what a frame's message decides is finished with the entries that it carries.
 use borrow.Author.Needs.{needs}
+use mathlib.Core.Path.{sym, ap, _∙_}
+use Rattle.raft.specs.Event.{step, receives}
+use Rattle.record.specs.Calls.{state-of, run}
+use Rattle.record.specs.DecidingLaws.{sound, finished, decides-as}
+use Rattle.messages.specs.DeliverLaws.{read-not, read-frame}
 use Rattle.messages.proofs.receive.run_bytes.Statement.{statement}
 use Rattle.messages.proofs.receive.run_bytes.Tie as tie
-use Rattle.messages.proofs.receive.run_bytes.Reads as reads
-use Rattle.messages.proofs.receive.run_bytes.Lts as lts
-use Rattle.finishing.proofs.finish_adding.Reads as finish-adding-reads
-use Rattle.finishing.proofs.refused.Reads as refused-reads
-use Rattle.frame_reader.proofs.read.Reads as read-reads
-use Rattle.messages.proofs.deliver.arrive.Reads as arrive-reads
 
--- src/receive.rt:24:9
 read-requires : tie.Need-read-requires
 read-requires c κs = search needs
 
--- src/receive.rt:26:9
 refused-requires : tie.Need-refused-requires
 refused-requires c κs = search needs
 
--- src/receive.rt:26:9
 returns : tie.Need-returns
-returns c = search needs
+unfolding step run
+returns c =
+    let at-if1 = c .before in
+    let at-read = at-if1 .before .before in
+    let entered = at-read .before .before .before .before .before .before in
+    let s = state-of (entered .args .n) (entered .args .terms .now) (entered .args .orders .now) in
+    rw (c .refused .ensures, ← read-not (entered .args .bytes .now) _ (at-read .read .ensures) (at-if1 .if1 .taken) s)
 
--- src/receive.rt:29:9
 arrive-requires : tie.Need-arrive-requires
-arrive-requires c κs = search needs
+arrive-requires c κs =
+    let at-if1 = c .before .before .before in
+    let at-read = at-if1 .before .before in
+    let entered = at-read .before .before .before .before .before .before in
+    record { ready = entered .pre; frame = read-frame (entered .args .bytes .now) _ (at-read .read .ensures) (at-if1 .if1 .left) .0 }
 
--- src/receive.rt:31:5
 finish-adding-requires : tie.Need-finish-adding-requires
-finish-adding-requires c κs = search needs
+unfolding step
+finish-adding-requires c κs =
+    let at-arrive = c .before .before .before .before .before in
+    let at-if1 = at-arrive .before .before .before .before in
+    let at-read = at-if1 .before .before in
+    let entered = at-read .before .before .before .before .before .before in
+    let frame = read-frame (entered .args .bytes .now) _ (at-read .read .ensures) (at-if1 .if1 .left) in
+    sound (receives (entered .args .bytes .now)) (entered .pre) (decides-as (at-arrive .arrive .ensures) (frame .1 (state-of (entered .args .n) (entered .args .terms .now) (entered .args .orders .now))))
 
--- src/receive.rt:11:1
 same-length : tie.Need-same-length
 same-length c = search needs
 
--- src/receive.rt:11:1
 same-length-2 : tie.Need-same-length-2
 same-length-2 c = search needs
 
--- src/receive.rt:11:1
 same-length-3 : tie.Need-same-length-3
 same-length-3 c = search needs
 
--- src/receive.rt:11:1
 same-length-4 : tie.Need-same-length-4
 same-length-4 c = search needs
 
--- src/receive.rt:11:1
 returns-2 : tie.Need-returns-2
-returns-2 c = search needs
+unfolding step
+returns-2 c =
+    let at-finish-adding = c .before .before .before .before .before .before .before .before in
+    let at-arrive = at-finish-adding .before .before .before .before .before .before in
+    let at-if1 = at-arrive .before .before .before .before in
+    let at-read = at-if1 .before .before in
+    let entered = at-read .before .before .before .before .before .before in
+    let frame = read-frame (entered .args .bytes .now) _ (at-read .read .ensures) (at-if1 .if1 .left) in
+    let decides = decides-as (at-arrive .arrive .ensures) (frame .1 (state-of (entered .args .n) (entered .args .terms .now) (entered .args .orders .now))) in
+    at-finish-adding .finish-adding .ensures ∙ finished (receives (entered .args .bytes .now)) (entered .pre) decides (entered .args .journal .now) (entered .args .messages .now)
 
 pub run-bytes-spec : {M : Type 1} → statement M
 run-bytes-spec =

@@ -1,48 +1,86 @@
+-- The definition's three cases; a winner's record is the one that leads.
 use borrow.Author.Needs.{needs}
+use native.Mathlib.Omega.{arith}
+use mathlib.Core.Path.{refl, sym, _∙_}
+use borrow.Author.Tests.{not-true, not-false}
+use Rattle.raft.specs.VoteAnswer.{adding, counts}
+use Rattle.record.specs.declared.Send.{Send}
+use Rattle.record.specs.Calls.{state-of}
+use Rattle.record.specs.Deciding.{messages-of, Aimed}
+use Rattle.record.specs.DecidingLaws.{plain-decides, changed-decides}
+use Rattle.record.specs.GoodLaws.{ready-last}
+use Rattle.messages.specs.VoteLaws.{answer-idle, answer-counts, answer-wins, wins-good}
 use Rattle.messages.proofs.vote_answer.vote_answer.Statement.{statement}
 use Rattle.messages.proofs.vote_answer.vote_answer.Tie as tie
-use Rattle.messages.proofs.vote_answer.vote_answer.Reads as reads
-use Rattle.messages.proofs.vote_answer.vote_answer.Lts as lts
-use Rattle.changes.proofs.step.Reads as step-reads
-use Rattle.changes.proofs.won.Reads as won-reads
-use Rattle.rules.proofs.bit.Reads as bit-reads
-use Rattle.rules.proofs.is_majority.Reads as is-majority-reads
 
--- src/vote_answer.rt:21:9
 step-requires : tie.Need-step-requires
 step-requires c κs = search needs
 
--- src/vote_answer.rt:21:9
 returns : tie.Need-returns
-returns c = search needs
+unfolding messages-of Aimed counts
+returns c =
+    let at-if1 = c .before in
+    let entered = at-if1 .before .before .before .before in
+    let s = state-of (entered .args .t) (entered .args .terms .now) (entered .args .orders .now) in
+    λ offered. rw (c .step .ensures)
+    (plain-decides (entered .args .t) offered (entered .args .terms .now) (entered .args .orders .now) Send.Nothing (ready-last (entered .pre .ready)) tt
+    (answer-idle s (entered .args .from) (entered .args .reply) (not-true _ (at-if1 .if1 .taken))))
 
--- src/vote_answer.rt:24:29
 bit-requires : tie.Need-bit-requires
-bit-requires c κs = search needs
+bit-requires c κs =
+    let entered = c .before .before .before .before in
+    (entered .pre .sender .box .least, entered .pre .sender .box .most)
 
--- src/vote_answer.rt:25:9
 is-majority-requires : tie.Need-is-majority-requires
 is-majority-requires c κs = search needs
 
--- src/vote_answer.rt:26:9
 step-requires-2 : tie.Need-step-requires-2
 step-requires-2 c κs = search needs
 
--- src/vote_answer.rt:26:9
 returns-2 : tie.Need-returns-2
-returns-2 c = search needs
+unfolding messages-of Aimed counts adding
+returns-2 c =
+    let at-if2 = c .before in
+    let at-is-majority = at-if2 .before in
+    let at-bit = at-is-majority .before .before in
+    let at-if1 = at-bit .before in
+    let entered = at-if1 .before .before .before .before in
+    let s = state-of (entered .args .t) (entered .args .terms .now) (entered .args .orders .now) in
+    let few = rw (at-bit .bit .ensures) at (sym (at-is-majority .is-majority .ensures) ∙ not-true _ (at-if2 .if2 .taken)) in
+    λ offered. rw (c .step2 .ensures)
+    (changed-decides (entered .args .t) _ offered (entered .args .terms .now) (entered .args .orders .now) Send.Nothing refl (ready-last (entered .pre .ready)) tt
+    (rw (at-bit .bit .ensures) (answer-counts s (entered .args .from) (entered .args .reply) (not-false _ (at-if1 .if1 .left)) few)))
 
--- src/vote_answer.rt:28:10
 won-requires : tie.Need-won-requires
-won-requires c κs = search needs
+unfolding adding counts
+won-requires c κs =
+    let at-bit = c .before .before .before in
+    let at-if1 = at-bit .before in
+    let entered = at-if1 .before .before .before .before in (
+      ready-last (entered .pre .ready),
+      (
+        omega (arith, ready-last (entered .pre .ready), entered .pre .ready .terms-long),
+        rw (at-bit .bit .ensures) (wins-good (entered .args .t) (entered .args .from) (entered .args .reply) (entered .args .terms .now) (entered .args .orders .now) (entered .pre) (not-false _ (at-if1 .if1 .left))),
+      ),
+    )
 
--- src/vote_answer.rt:28:5
 step-requires-3 : tie.Need-step-requires-3
 step-requires-3 c κs = search needs
 
--- src/vote_answer.rt:15:1
 returns-3 : tie.Need-returns-3
-returns-3 c = search needs
+unfolding messages-of Aimed counts adding
+returns-3 c =
+    let at-won = c .before in
+    let at-if2 = at-won .before in
+    let at-is-majority = at-if2 .before in
+    let at-bit = at-is-majority .before .before in
+    let at-if1 = at-bit .before in
+    let entered = at-if1 .before .before .before .before in
+    let s = state-of (entered .args .t) (entered .args .terms .now) (entered .args .orders .now) in
+    let most = rw (at-bit .bit .ensures) at (sym (at-is-majority .is-majority .ensures) ∙ not-false _ (at-if2 .if2 .left)) in
+    λ offered. rw (c .step3 .ensures)
+    (changed-decides (entered .args .t) _ offered (entered .args .terms .now) (entered .args .orders .now) Send.Appends (at-won .won .ensures .1) (ready-last (entered .pre .ready)) tt
+    (rw (at-won .won .ensures .0, at-bit .bit .ensures) (answer-wins s (entered .args .from) (entered .args .reply) (not-false _ (at-if1 .if1 .left)) most)))
 
 pub vote-answer-spec : {M : Type 1} → statement M
 vote-answer-spec =
