@@ -4,57 +4,91 @@ use native.Mathlib.Omega.{arith}
 use mathlib.Core.Path.{_≡_, refl, sym, ap, _∙_}
 use mathlib.Core.Bool.{Bool, true, false, cond}
 use mathlib.Core.List.{List}
-use lib.ListN.{length, take, drop, length-take}
+use lib.ListN.{length, take, drop, length-take, length-drop}
 use borrow.Author.Tests.{eq-eqb, ne-eqb}
 use Rattle.frames.specs.Limits.{log-limit}
+use Rattle.text.specs.Lines.{first-line}
+use Rattle.text.specs.LinesLaws.{first-most}
 use Rattle.raft.specs.Record.{fresh}
+use Rattle.record.specs.declared.Record.{Record}
+use Rattle.record.specs.Calls.{record-of}
 use Rattle.journal.specs.Lines.{lines, mask-in}
-use Rattle.journal.specs.Opening.{Replayed, next, breaks, replayed, is-head}
-use Rattle.record.specs.declared.Node.{Node}
-use Rattle.record.specs.Calls.{state-of, node-of}
+use Rattle.journal.specs.Opening.{is-head}
 use Rattle.opening.specs.declared.Replayed as declared
-use Rattle.opening.specs.Calls.{first-line, Replaying, replaying, replaying-by, heading, Blocks, stopped, replay-each}
-use Rattle.opening.specs.CodeLaws.{first-most}
-use Rattle.opening.specs.ReplayCode.{replayed-room, lines-end, lines-next}
+use Rattle.opening.specs.declared.Block.{Block}
+use Rattle.opening.specs.Calls.{Replays, heading, Blocks, stopped, replay-each, replaying-lines, ReplaysLines}
+use Rattle.opening.specs.ReplayCode.{line-goes, broken-leaves, lines-end, lines-next}
 use Rattle.opening.specs.OpenCode.{head-mask}
 
 -- ---- the head
 
-module _ (me mask : ℕ) (line : List ℕ) (f : mask ≡ cond (is-head me line) (mask-in line) 0) where
-  pub no-head : mask ≡ 0 → {n : Node} → n ≡ node-of (fresh 0 0) → _≡_ {A = declared.Replayed} (record { refusal = 11; node = n }) (heading me line)
+module _ (me : ℕ) (line : List ℕ) {mask : ℕ} (f : mask ≡ cond (is-head me line) (mask-in line) 0) where
+  pub no-head : mask ≡ 0 → {n : Record} → n ≡ record-of (fresh 0 0)
+      → _≡_ {A = declared.Replayed} (record { refusal = 11; state = n }) (heading me line)
   unfolding heading
   no-head z {n} e = go (is-head me line) refl
     where
-      go : (b : Bool) → is-head me line ≡ b → _≡_ {A = declared.Replayed} (record { refusal = 11; node = n }) (heading me line)
+      go : (b : Bool) → is-head me line ≡ b → _≡_ {A = declared.Replayed} (record { refusal = 11; state = n }) (heading me line)
       go true q = absurd (head-mask me line q (sym (f ∙ rw q) ∙ z))
       go false q = rw (q, e)
 
-  pub a-head : (mask ≡ 0 → ⊥) → {n : Node} → n ≡ node-of (fresh me mask) → _≡_ {A = declared.Replayed} (record { refusal = 0; node = n }) (heading me line)
+  pub a-head : (mask ≡ 0 → ⊥) → {n : Record} → n ≡ record-of (fresh me mask)
+      → _≡_ {A = declared.Replayed} (record { refusal = 0; state = n }) (heading me line)
   unfolding heading
   a-head z {n} e = go (is-head me line) refl
     where
-      go : (b : Bool) → is-head me line ≡ b → _≡_ {A = declared.Replayed} (record { refusal = 0; node = n }) (heading me line)
+      go : (b : Bool) → is-head me line ≡ b → _≡_ {A = declared.Replayed} (record { refusal = 0; state = n }) (heading me line)
       go true q =
           let m : mask ≡ mask-in line = f ∙ rw q in
           rw (q, e, m)
       go false q = absurd (z (f ∙ rw q))
 
+-- its log fits
+pub heading-fits : (me : ℕ) (line : List ℕ) → heading me line .state .last ≤ log-limit
+unfolding heading fresh
+heading-fits me line = go (is-head me line) refl
+  where
+    go : (b : Bool) → is-head me line ≡ b → heading me line .state .last ≤ log-limit
+    go true e = rw e (omega arith)
+    go false e = rw e (omega arith)
+
 -- ---- the lines
 
 -- Where the loop stands: the record, the bytes and lines replayed, and the lent log.
-abbrev pub reached : Node → ℕ → ℕ → List ℕ → List ℕ → Blocks
-reached node at number terms orders =
-    record { answer = record { refusal = 0; node = node; bytes = at; lines = number }; terms = terms; orders = orders }
+abbrev pub reached : Record → ℕ → ℕ → List ℕ → List ℕ → Blocks
+reached state at number terms orders =
+    record { answer = record { refusal = 0; state = state; bytes = at; lines = number }; terms = terms; orders = orders }
 
-module _ (bytes : List ℕ) (node : Node) (at number end : ℕ) (terms orders : List ℕ) (h : at ≤ length bytes)
-    (e : end ≡ at + first-line (drop at bytes)) where
+-- What was replayed up to there and what is left make the whole.
+pub record Counted (start : Record) (bytes terms₀ orders₀ : List ℕ) (state : Record) (terms orders : List ℕ) (at number : ℕ) : Type 0 where
+  pub inside : at ≤ length bytes
+  pub few : number ≤ at
+  pub room : start .last ≤ log-limit → state .last ≤ log-limit
+  pub same : replaying-lines start bytes terms₀ orders₀ ≡ replay-each (reached state at number terms orders) (lines (drop at bytes))
+
+pub counted-first : (start : Record) (bytes terms orders : List ℕ) → Counted start bytes terms orders start terms orders 0 0
+unfolding replaying-lines
+counted-first start bytes terms orders = record { inside = omega arith; few = omega arith; room = λ h. h; same = refl }
+
+module _ {start : Record} {bytes terms₀ orders₀ : List ℕ} {state : Record} {terms orders : List ℕ} {at number : ℕ}
+    (s : Counted start bytes terms₀ orders₀ state terms orders at number) {end : ℕ} (e : end ≡ at + first-line (drop at bytes)) where
+  -- a line ends within the bytes
+  pub line-inside : end ≤ length bytes
+  line-inside = omega (arith, e, s .inside, first-most (drop at bytes), length-drop at bytes)
+
   -- no whole line is left
-  pub each-ends : end ≡ at → replay-each (reached node at number terms orders) (lines (drop at bytes)) ≡ reached node at number terms orders
+  pub counted-end : end ≡ at
+      → ReplaysLines start bytes terms₀ orders₀ (record { refusal = 0; state = state; bytes = at; lines = number }) terms orders
   unfolding replay-each
-  each-ends z = rw (lines-end bytes at h (omega (arith, e, z)) .0)
+  counted-end z =
+      record {
+        leaves = sym (s .same ∙ rw (lines-end bytes at (s .inside) (omega (arith, e, z)) .0));
+        inside = s .inside;
+        room = s .room;
+      }
 
-  module _ (z : end ≡ at → ⊥) (one : declared.Replayed) {terms' orders' : List ℕ}
-      (a : _≡_ {A = Replaying} (record { answer = one; terms = terms'; orders = orders' }) (replaying node (take (end - at) (drop at bytes)) terms orders)) where
+  module _ (z : end ≡ at → ⊥) {one : declared.Replayed} {terms' orders' : List ℕ}
+      (a : Replays state (take (end - at) (drop at bytes)) terms orders one terms' orders') where
     some : first-line (drop at bytes) ≡ 0 → ⊥
     some q = z (omega (arith, e, q))
 
@@ -62,56 +96,29 @@ module _ (bytes : List ℕ) (node : Node) (at number end : ℕ) (terms orders : 
     gone = omega (arith, e)
 
     -- a line that breaks a rule
-    pub each-stops : (one .refusal ≡ 0 → ⊥)
-        → replay-each (reached node at number terms orders) (lines (drop at bytes)) ≡ stopped (reached node at number terms orders)
+    pub counted-stop : (one .refusal ≡ 0 → ⊥)
+        → ReplaysLines start bytes terms₀ orders₀ (record { refusal = 10; state = state; bytes = at; lines = number }) terms' orders'
     unfolding replay-each
-    each-stops r = rw (lines-next bytes at h some .0, ← gone, ← a, ne-eqb (one .refusal) 0 r)
+    counted-stop r =
+        record {
+          leaves = rw (broken-leaves _ _ _ _ a r .0, broken-leaves _ _ _ _ a r .1) (sym (s .same ∙ stops));
+          inside = s .inside;
+          room = s .room;
+        }
+      where
+        stops : replay-each (reached state at number terms orders) (lines (drop at bytes)) ≡ stopped (reached state at number terms orders)
+        stops = rw (lines-next bytes at (s .inside) some .0, ← gone, ← a, ne-eqb (one .refusal) 0 r)
 
     -- one line more
-    pub each-next : one .refusal ≡ 0
-        → replay-each (reached node at number terms orders) (lines (drop at bytes))
-        ≡ replay-each (reached (one .node) end (number + 1) terms' orders') (lines (drop end bytes))
+    pub counted-next : one .refusal ≡ 0 → Counted start bytes terms₀ orders₀ (one .state) terms' orders' end (number + 1)
     unfolding replay-each
-    each-next r = rw (lines-next bytes at h some .0, ← e, ← gone, ← a, eq-eqb (one .refusal) 0 r, long)
+    counted-next r =
+        record {
+          inside = line-inside;
+          few = omega (arith, e, s .few, z);
+          room = λ h. line-goes _ _ _ _ a r .room;
+          same = s .same ∙ rw (lines-next bytes at (s .inside) some .0, ← e, ← gone, ← a, eq-eqb (one .refusal) 0 r, long);
+        }
       where
         long : at + length (take (end - at) (drop at bytes)) ≡ end
         long = omega (arith, e, gone, first-most (drop at bytes), length-take (end - at) (drop at bytes))
-
--- a line that breaks a rule leaves the log
-pub broken-leaves : (node : Node) (line terms orders : List ℕ) (one : declared.Replayed) {terms' orders' : List ℕ}
-    → _≡_ {A = Replaying} (record { answer = one; terms = terms'; orders = orders' }) (replaying node line terms orders) → (one .refusal ≡ 0 → ⊥)
-    → (terms' ≡ terms) × (orders' ≡ orders)
-unfolding replaying replaying-by
-broken-leaves node line terms orders one {terms'} {orders'} a z = go (replayed (state-of node terms orders) line) refl
-  where
-    go : (r : Replayed) → replayed (state-of node terms orders) line ≡ r → (terms' ≡ terms) × (orders' ≡ orders)
-    go (next t) q =
-        let all : _≡_ {A = Replaying} (record { answer = one; terms = terms'; orders = orders' }) (replaying-by (next t) node terms orders) = a ∙ rw q in
-        absurd (z (ap (λ (x : Replaying). x .answer .refusal) all))
-    go breaks q =
-        let all : _≡_ {A = Replaying} (record { answer = one; terms = terms'; orders = orders' }) (replaying-by breaks node terms orders) = a ∙ rw q in
-        (ap (λ (x : Replaying). x .terms) all, ap (λ (x : Replaying). x .orders) all)
-
--- a line that was replayed leaves a log that fits
-pub replayed-fits : (node : Node) (line terms orders : List ℕ) (one : declared.Replayed) {terms' orders' : List ℕ}
-    → _≡_ {A = Replaying} (record { answer = one; terms = terms'; orders = orders' }) (replaying node line terms orders) → one .refusal ≡ 0
-    → one .node .last ≤ log-limit
-unfolding replaying replaying-by
-replayed-fits node line terms orders one {terms'} {orders'} a z = go (replayed (state-of node terms orders) line) refl
-  where
-    go : (r : Replayed) → replayed (state-of node terms orders) line ≡ r → one .node .last ≤ log-limit
-    go (next t) q =
-        let all : _≡_ {A = Replaying} (record { answer = one; terms = terms'; orders = orders' }) (replaying-by (next t) node terms orders) = a ∙ rw q in
-        rw (ap (λ (x : Replaying). x .answer .node) all) (replayed-room (state-of node terms orders) line t q)
-    go breaks q =
-        let all : _≡_ {A = Replaying} (record { answer = one; terms = terms'; orders = orders' }) (replaying-by breaks node terms orders) = a ∙ rw q in
-        absurd (omega (arith, z, ap (λ (x : Replaying). x .answer .refusal) all))
-
--- and so does a head
-pub heading-fits : (me : ℕ) (line : List ℕ) → heading me line .node .last ≤ log-limit
-unfolding heading fresh
-heading-fits me line = go (is-head me line) refl
-  where
-    go : (b : Bool) → is-head me line ≡ b → heading me line .node .last ≤ log-limit
-    go true e = rw e (omega arith)
-    go false e = rw e (omega arith)

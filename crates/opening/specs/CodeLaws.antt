@@ -1,18 +1,13 @@
--- What the code's proofs use: where a line ends, its form and fields, and its rules on the structs. Assumes nothing.
-use Prim.Native.Nat.{ℕ, zero, suc, _+_, _-_, _*_, _≤_, _<_}
-use native.Mathlib.Nat.{add-zero, zero-add}
-use native.Mathlib.Numerals.{add-one}
+-- What the code's proofs use: whole lines, their form and fields, and their rules on the structs. Assumes nothing.
+use Prim.Native.Nat.{ℕ, suc, _+_, _*_, _≤_, _<_}
 use native.Mathlib.Omega.{arith}
 use mathlib.Core.Path.{_≡_, refl, sym, ap, _∙_}
 use mathlib.Core.Bool.{Bool, true, false, cond, _&&_, _||_, and-true, and-false}
 use mathlib.Core.List.{List, [], _∷_, _++_}
 use lib.Dec.{eqb, ltb, leb}
-use lib.ListN.{length, getD, set, take, drop, drop-of-length-le}
-use lib.Seq.{take-suc, drop-cons, length-take-le}
+use lib.ListN.{length, take}
 use borrow.Author.Tests.{eqb-true, eqb-false, leb-true, eq-eqb, ne-eqb}
 use Rattle.digits.specs.Digits.{field, run}
-use Rattle.digits.specs.Room.{over}
-use Rattle.digits.specs.RoomLaws.{length-over, over-nothing, over-over}
 use Rattle.digits.specs.Tests.{and-left, and-right}
 use Rattle.frames.specs.declared.Entry.{Entry}
 use Rattle.frames.specs.Limits.{log-limit, entry-limit}
@@ -22,63 +17,20 @@ use Rattle.frames.specs.Reading.{text-size, is-line, version, kind, entries-at}
 use Rattle.frames.specs.Fields.{listed, places}
 use Rattle.frames.specs.Clauses.{four}
 use Rattle.frames.specs.Laws.{length-listed}
-use Rattle.frames.specs.WritingLaws.{stored-one}
 use Rattle.frames.specs.ReadingLaws.{line-run, listed-places, length-entries}
 use Rattle.raft.specs.SendLaws.{All}
 use Rattle.raft.specs.Record.{State, term-at, is-membership, is-vote}
 use Rattle.raft.specs.LentLaws.{length-entries-of}
-use Rattle.record.specs.declared.Node.{Node}
+use Rattle.record.specs.declared.Record.{Record}
 use Rattle.record.specs.Calls.{entries-of, state-of}
 use Rattle.opening.specs.declared.Told.{Told}
 use Rattle.journal.specs.Lines.{box-in, mask-in, count-in, line-shaped, line-in, head-shaped}
 use Rattle.journal.specs.Opening.{is-head, allows}
 use Rattle.journal.specs.LinesLaws.{Feedless, Whole}
-use Rattle.opening.specs.Calls.{first-line, line-of, allows-numbers}
+use Rattle.text.specs.Lines.{first-line}
+use Rattle.opening.specs.Calls.{line-of, allows-numbers}
 
 -- ---- where a line ends
-
--- A place found so much further on, or none.
-unfoldable pub further : ℕ → ℕ → ℕ
-further k m = cond (eqb m 0) 0 (k + m)
-
-pub further-none : (m : ℕ) → m ≡ further 0 m
-unfolding further
-further-none m = go (eqb m 0) refl
-  where
-    go : (b : Bool) → eqb m 0 ≡ b → m ≡ cond b 0 (0 + m)
-    go true e = eqb-true m 0 e
-    go false e = omega arith
-
-pub further-end : (k : ℕ) → further k 0 ≡ 0
-unfolding further
-further-end k = refl
-
-pub further-found : (k : ℕ) → further k 1 ≡ k + 1
-unfolding further
-further-found k = refl
-
--- a byte that is no line feed is passed
-pub further-next : (bytes : List ℕ) (i k : ℕ) → i < length bytes → (getD bytes i 0 ≡ line-feed → ⊥)
-    → further k (first-line (drop i bytes)) ≡ further (k + 1) (first-line (drop (i + 1) bytes))
-unfolding further first-line
-further-next bytes i k h n =
-    rw (drop-cons bytes i 0 h, ne-eqb (getD bytes i 0) line-feed n, add-one i)
-    (go (eqb (first-line (drop (suc i) bytes)) 0))
-  where
-    go : (b : Bool) → cond (eqb (cond b 0 (suc (first-line (drop (suc i) bytes)))) 0) 0 (k + cond b 0 (suc (first-line (drop (suc i) bytes))))
-        ≡ cond b 0 (k + 1 + first-line (drop (suc i) bytes))
-    go true = refl
-    go false = rw (ne-eqb (suc (first-line (drop (suc i) bytes))) 0 (λ e. omega arith)) (omega arith)
-
--- a line feed ends it
-pub first-here : (bytes : List ℕ) (i : ℕ) → i < length bytes → getD bytes i 0 ≡ line-feed → first-line (drop i bytes) ≡ 1
-unfolding first-line
-first-here bytes i h e = rw (drop-cons bytes i 0 h, eq-eqb (getD bytes i 0) line-feed e)
-
--- past the end there is none
-pub first-past : (bytes : List ℕ) (i : ℕ) → length bytes ≤ i → first-line (drop i bytes) ≡ 0
-unfolding first-line
-first-past bytes i h = rw (drop-of-length-le bytes {i = i} h)
 
 -- no line feed, no line
 pub first-none : (bytes : List ℕ) → first-line bytes ≡ 0 → Feedless bytes
@@ -86,21 +38,12 @@ unfolding first-line All
 first-none [] h = tt
 first-none (b ∷ bytes) h = go (first-none bytes) (eqb b line-feed) refl (eqb (first-line bytes) 0) refl h
   where
-    go : (first-line bytes ≡ 0 → Feedless bytes) → (x : Bool) → eqb b line-feed ≡ x → (y : Bool) → eqb (first-line bytes) 0 ≡ y → cond x 1 (cond y 0 (suc (first-line bytes))) ≡ 0
+    go : (first-line bytes ≡ 0 → Feedless bytes) → (x : Bool) → eqb b line-feed ≡ x → (y : Bool) → eqb (first-line bytes) 0 ≡ y
+        → cond x 1 (cond y 0 (suc (first-line bytes))) ≡ 0
         → (eqb b line-feed ≡ false) × All (λ c. eqb c line-feed ≡ false) bytes
     go f true p y q e = absurd (omega arith)
     go f false p true q e = (p, f (eqb-true (first-line bytes) 0 q))
     go f false p false q e = absurd (omega arith)
-
-pub first-most : (bytes : List ℕ) → first-line bytes ≤ length bytes
-unfolding first-line
-first-most [] = omega arith
-first-most (b ∷ bytes) = go (eqb b line-feed) (eqb (first-line bytes) 0) (first-most bytes)
-  where
-    go : (x y : Bool) → first-line bytes ≤ length bytes → cond x 1 (cond y 0 (suc (first-line bytes))) ≤ suc (length bytes)
-    go true y l = omega arith
-    go false true l = omega arith
-    go false false l = omega arith
 
 -- otherwise the bytes up to there are one whole line
 pub first-whole : (bytes : List ℕ) → (first-line bytes ≡ 0 → ⊥) → Whole (take (first-line bytes) bytes)
@@ -108,7 +51,8 @@ unfolding first-line All
 first-whole [] h = absurd (h refl)
 first-whole (b ∷ bytes) h = go (first-whole bytes) (eqb b line-feed) refl (eqb (first-line bytes) 0) refl h
   where
-    go : ((first-line bytes ≡ 0 → ⊥) → Whole (take (first-line bytes) bytes)) → (x : Bool) → eqb b line-feed ≡ x → (y : Bool) → eqb (first-line bytes) 0 ≡ y → (cond x 1 (cond y 0 (suc (first-line bytes))) ≡ 0 → ⊥)
+    go : ((first-line bytes ≡ 0 → ⊥) → Whole (take (first-line bytes) bytes)) → (x : Bool) → eqb b line-feed ≡ x → (y : Bool)
+        → eqb (first-line bytes) 0 ≡ y → (cond x 1 (cond y 0 (suc (first-line bytes))) ≡ 0 → ⊥)
         → Whole (take (cond x 1 (cond y 0 (suc (first-line bytes)))) (b ∷ bytes))
     go f true p y q n = record { front = []; free = tt; ended = rw (eqb-true b line-feed p) }
     go f false p true q n = absurd (n refl)
@@ -201,19 +145,19 @@ told-line s who term vote kept count es a b c d e f h =
 -- ---- its rules
 
 -- on the structs
-pub allows-by : (b : Node) (l : Told) (terms orders : List ℕ)
+pub allows-by : (b : Record) (l : Told) (terms orders : List ℕ)
     → allows (state-of b terms orders) (line-of l)
     ≡ (allows-numbers b l && in-order (term-at (entries-of terms orders 0 (b .last)) (l .kept)) (l .term) (listed (l .entries) 0 (l .count)))
 unfolding allows
 allows-by b l terms orders = rw (length-listed (l .entries) 0 (l .count), length-entries-of terms orders 0 (b .last))
 
 -- what they say of the numbers
-pub record Numbers (b : Node) (l : Told) : Type 0 where
+pub record Numbers (b : Record) (l : Told) : Type 0 where
   pub inside : l .kept ≤ b .last
   pub room : l .kept + l .count ≤ log-limit
   pub few : l .count ≤ entry-limit
 
-pub numbers : (b : Node) (l : Told) → allows-numbers b l ≡ true → Numbers b l
+pub numbers : (b : Record) (l : Told) → allows-numbers b l ≡ true → Numbers b l
 numbers b l h =
     let front = eqb (l .who) (b .me) && (leb 1 (l .term) && leb (b .term) (l .term)) && is-vote (b .members) (l .vote) in
     let t = four front (ltb (b .term) (l .term) || eqb (b .vote) 0 || eqb (l .vote) (b .vote)) (leb (l .kept) (b .last)) (leb (l .kept + l .count) log-limit && leb (l .count) entry-limit) h in
@@ -223,23 +167,5 @@ numbers b l h =
       few = leb-true _ _ (and-right (leb (l .kept + l .count) log-limit) _ (t .3));
     }
 
-pub allowed-numbers : (b : Node) (l : Told) (terms orders : List ℕ) → allows (state-of b terms orders) (line-of l) ≡ true → Numbers b l
+pub allowed-numbers : (b : Record) (l : Told) (terms orders : List ℕ) → allows (state-of b terms orders) (line-of l) ≡ true → Numbers b l
 allowed-numbers b l terms orders a = numbers b l (and-left (allows-numbers b l) _ (sym (allows-by b l terms orders) ∙ a))
-
--- ---- handing the log over
-
-pub hand-none : (d l : List ℕ) → d ≡ over d 0 (take 0 l)
-hand-none d l = over-nothing d 0
-
--- one more is handed over
-pub hand-next : (d l : List ℕ) {d₁ : List ℕ} (i : ℕ) → i < length d → i < length l → d₁ ≡ over d 0 (take i l)
-    → set d₁ i (getD l i 0) ≡ over d 0 (take (i + 1) l)
-hand-next d l i h k e =
-    rw (e, add-one i, take-suc l i 0 k, stored-one (over d 0 (take i l)) i (getD l i 0) (omega (arith, length-over d 0 (take i l) (omega (arith, long)))))
-    (ap (λ (n : ℕ). over (over d 0 (take i l)) n (getD l i 0 ∷ [])) long' ∙ over-over d 0 (take i l) (getD l i 0 ∷ []) (omega (arith, long)))
-  where
-    long : length (take i l) ≡ i
-    long = length-take-le i l (omega arith)
-
-    long' : i ≡ 0 + length (take i l)
-    long' = omega (arith, long)

@@ -12,18 +12,20 @@ use Rattle.digits.specs.Room.{over}
 use Rattle.digits.specs.Tests.{and-left, and-right}
 use Rattle.frames.specs.Limits.{boxes, log-limit}
 use Rattle.frames.specs.Clauses.{four}
+use Rattle.text.specs.Lines.{first-line}
+use Rattle.text.specs.LinesLaws.{first-most}
 use Rattle.raft.specs.Majority.{holds}
 use Rattle.raft.specs.Record.{State, fresh, is-membership}
 use Rattle.raft.specs.RecordLaws.{at-box, Member, member-facts}
 use Rattle.raft.specs.Lent.{entries-of, terms-of, orders-of}
 use Rattle.raft.specs.LentLaws.{terms-are, orders-are}
-use Rattle.record.specs.declared.Node.{Node}
-use Rattle.record.specs.Calls.{state-of, node-of}
+use Rattle.record.specs.declared.Record.{Record}
+use Rattle.record.specs.Calls.{state-of, record-of}
 use Rattle.journal.specs.Lines.{lines, whole-bytes, box-in, mask-in, head-shaped}
 use Rattle.journal.specs.Opening.{Opened, opened, headless, broken, replay, is-head, open-lines, opening}
 use Rattle.opening.specs.declared.Opened as answers
-use Rattle.opening.specs.Calls.{first-line, none, Found, Opens, opening-by, opens}
-use Rattle.opening.specs.CodeLaws.{first-most, head-nine-long}
+use Rattle.opening.specs.Calls.{LentLog, none, Found, Begins, Finds, opening-by, opens, Opens}
+use Rattle.opening.specs.CodeLaws.{head-nine-long}
 use Rattle.opening.specs.ReplayCode.{lines-end, lines-next}
 
 -- nobody is in an empty mask
@@ -38,17 +40,19 @@ head-mask me s h e =
     let m = member-facts me (mask-in s) (and-right (head-shaped s && eqb (box-in s) me) _ h) in
     true≢false (sym (m .held) ∙ rw e (held-none me (m .least) (m .most)))
 
-module _ (me : ℕ) (bytes : List ℕ) (end mask : ℕ) (e : end ≡ 0 + first-line (drop 0 bytes))
+module _ (me : ℕ) (bytes : List ℕ) {end mask : ℕ} (e : end ≡ 0 + first-line (drop 0 bytes))
     (f : mask ≡ cond (is-head me (take end bytes)) (mask-in (take end bytes)) 0) where
   -- no head
   pub open-headless : mask ≡ 0 → opening me bytes ≡ headless
   unfolding opening open-lines
   open-headless h = go (eqb (first-line bytes) 0) refl (is-head me (take end bytes)) refl
     where
-      go : (x : Bool) → eqb (first-line bytes) 0 ≡ x → (y : Bool) → is-head me (take end bytes) ≡ y → open-lines me (whole-bytes bytes) (lines bytes) ≡ headless
+      go : (x : Bool) → eqb (first-line bytes) 0 ≡ x → (y : Bool) → is-head me (take end bytes) ≡ y
+          → open-lines me (whole-bytes bytes) (lines bytes) ≡ headless
       go true p y q = rw (lines-end bytes 0 (omega arith) (eqb-true (first-line bytes) 0 p) .0)
       go false p true q = absurd (head-mask me (take end bytes) q (sym (f ∙ rw q) ∙ h))
-      go false p false q = rw (lines-next bytes 0 (omega arith) (eqb-false (first-line bytes) 0 p) .0, ← zero-add (first-line bytes), ← e, q)
+      go false p false q =
+          rw (lines-next bytes 0 (omega arith) (eqb-false (first-line bytes) 0 p) .0, ← zero-add (first-line bytes), ← e, q)
 
   -- a head, and the lines behind it
   module _ (h : mask ≡ 0 → ⊥) where
@@ -64,12 +68,14 @@ module _ (me : ℕ) (bytes : List ℕ) (end mask : ℕ) (e : end ≡ 0 + first-l
 
     nine : length (take end bytes) ≡ 9
     unfolding is-head
-    nine = head-nine-long (take end bytes) (and-left (head-shaped (take end bytes)) _ (and-left (head-shaped (take end bytes) && eqb (box-in (take end bytes)) me) _ is))
+    nine =
+        let front = and-left (head-shaped (take end bytes) && eqb (box-in (take end bytes)) me) _ is in
+        head-nine-long (take end bytes) (and-left (head-shaped (take end bytes)) _ front)
 
-    pub head-end : (2 ≤ end) × (end ≤ length bytes)
+    head-end : (2 ≤ end) × (end ≤ length bytes)
     head-end = omega (arith, nine, length-take end bytes, e, first-most bytes)
 
-    pub open-head : opening me bytes ≡ replay (end + whole-bytes (drop end bytes)) (fresh me mask) 2 (lines (drop end bytes))
+    open-head : opening me bytes ≡ replay (end + whole-bytes (drop end bytes)) (fresh me mask) 2 (lines (drop end bytes))
     unfolding opening open-lines
     open-head = rw (all-lines, all-bytes, is, ← masked)
       where
@@ -85,47 +91,62 @@ module _ (me : ℕ) (bytes : List ℕ) (end mask : ℕ) (e : end ≡ 0 + first-l
         all-bytes : whole-bytes bytes ≡ end + whole-bytes (drop end bytes)
         all-bytes = lines-next bytes 0 (omega arith) some .1 ∙ rw (zero-add, here)
 
--- the fresh record's struct, whatever log is lent
-pub fresh-state : (me mask : ℕ) (n : Node) (made taken : List ℕ) → n ≡ node-of (fresh me mask) → state-of n made taken ≡ fresh me mask
-unfolding fresh entries-of
-fresh-state me mask n made taken e = rw e
+    -- the lines behind it begin with the fresh record's struct, whatever log is lent
+    module _ {n : Record} (g : n ≡ record-of (fresh me mask)) where
+      pub open-begins : {terms orders : List ℕ} → LentLog terms orders → Begins n bytes end terms orders
+      unfolding fresh
+      open-begins lent = record { lent = lent; inside = head-end .1; behind = head-end .0; room = rw g (omega arith) }
 
-pub fresh-room : (me mask : ℕ) (n : Node) → n ≡ node-of (fresh me mask) → n .last ≤ log-limit
-unfolding fresh
-fresh-room me mask n e = rw e (omega arith)
+      fresh-state : (made taken : List ℕ) → state-of n made taken ≡ fresh me mask
+      unfolding fresh entries-of
+      fresh-state made taken = rw g
+
+      pub open-finds : (made₀ taken₀ made taken : List ℕ) (found : answers.Opened) → Finds n bytes end made₀ taken₀ found made taken
+          → Found found made taken (opening me bytes)
+      open-finds made₀ taken₀ made taken found k = rw (open-head, ← fresh-state made₀ taken₀) k
 
 -- ---- the answer
 
-module _ (me : ℕ) (bytes terms orders made taken : List ℕ) (found : answers.Opened) where
+module _ (me : ℕ) (bytes terms orders : List ℕ) where
   -- no head
-  pub opens-headless : (r : answers.Opened) → opening me bytes ≡ headless → r ≡ record { refusal = 11; node = none; bytes = 0; line = 0 }
-      → _≡_ {A = Opens} (record { answer = r; terms = terms; orders = orders }) (opens me bytes terms orders)
+  pub opens-headless : {r : answers.Opened} → opening me bytes ≡ headless → r ≡ record { refusal = 11; state = none; bytes = 0; line = 0 }
+      → Opens me bytes terms orders r terms orders
   unfolding opens opening-by
-  opens-headless r e f = rw (e, f)
+  opens-headless e f = rw (e, f)
 
-  -- a line that breaks a rule
-  pub opens-broken : (o : Opened) → Found found made taken o → opening me bytes ≡ o → (found .refusal ≡ 0 → ⊥)
-      → _≡_ {A = Opens} (record { answer = found; terms = terms; orders = orders }) (opens me bytes terms orders)
-  unfolding opens opening-by Found
-  opens-broken (opened s n) f e h = absurd (h (ap (λ (x : answers.Opened). x .refusal) (f .0)))
-  opens-broken headless f e h = absurd f
-  opens-broken (broken line) f e h = rw (e, f)
+  module _ (made taken : List ℕ) (found : answers.Opened) (k : Found found made taken (opening me bytes)) where
+    -- a line that breaks a rule
+    pub opens-broken : (found .refusal ≡ 0 → ⊥) → Opens me bytes terms orders found terms orders
+    unfolding opens opening-by Found
+    opens-broken h = go (opening me bytes) refl k
+      where
+        go : (o : Opened) → opening me bytes ≡ o → Found found made taken o → Opens me bytes terms orders found terms orders
+        go (opened s n) e f = absurd (h (ap (λ (x : answers.Opened). x .refusal) (f .0)))
+        go headless e f = absurd f
+        go (broken line) e f = rw (e, f)
 
-  -- all lines were good
-  pub opens-found : (o : Opened) {terms' orders' : List ℕ} → Found found made taken o → opening me bytes ≡ o → found .refusal ≡ 0
-      → length made ≡ log-limit → length taken ≡ log-limit → terms' ≡ over terms 0 (take (found .node .last) made)
-      → orders' ≡ over orders 0 (take (found .node .last) taken)
-      → _≡_ {A = Opens} (record { answer = found; terms = terms'; orders = orders' }) (opens me bytes terms orders)
-  unfolding opens opening-by Found
-  opens-found (opened s n) f e h p q t o =
-      let te : take (length (s .log)) made ≡ terms-of (s .log) = sym (terms-are made taken 0 (length (s .log)) (omega (arith, f .2))) ∙ ap terms-of (f .1) in
-      let od : take (length (s .log)) taken ≡ orders-of (s .log) = sym (orders-are made taken 0 (length (s .log)) (omega (arith, f .2))) ∙ ap orders-of (f .1) in
-      rw (e, t, o, f .0, te, od)
-  opens-found headless f e h p q t o = absurd f
-  opens-found (broken line) f e h p q t o = absurd (omega (arith, h, ap (λ (x : answers.Opened). x .refusal) f))
+    -- all lines were good: the log fits,
+    pub found-room : found .refusal ≡ 0 → found .state .last ≤ log-limit
+    unfolding Found
+    found-room h = go (opening me bytes) k
+      where
+        go : (o : Opened) → Found found made taken o → found .state .last ≤ log-limit
+        go (opened s n) f = rw (f .0) (f .2)
+        go headless f = absurd f
+        go (broken line) f = absurd (omega (arith, h, ap (λ (x : answers.Opened). x .refusal) f))
 
-  pub found-room : (o : Opened) → Found found made taken o → found .refusal ≡ 0 → found .node .last ≤ log-limit
-  unfolding Found
-  found-room (opened s n) f h = rw (f .0) (f .2)
-  found-room headless f h = absurd f
-  found-room (broken line) f h = absurd (omega (arith, h, ap (λ (x : answers.Opened). x .refusal) f))
+    -- and is handed over
+    pub opens-found : {terms' orders' : List ℕ} → found .refusal ≡ 0 → length made ≡ log-limit → length taken ≡ log-limit
+        → terms' ≡ over terms 0 (take (found .state .last) made) → orders' ≡ over orders 0 (take (found .state .last) taken)
+        → Opens me bytes terms orders found terms' orders'
+    unfolding opens opening-by Found
+    opens-found {terms'} {orders'} h p q t o = go (opening me bytes) refl k
+      where
+        go : (x : Opened) → opening me bytes ≡ x → Found found made taken x → Opens me bytes terms orders found terms' orders'
+        go (opened s n) e f =
+            let log = s .log in
+            let te : take (length log) made ≡ terms-of log = sym (terms-are made taken 0 (length log) (omega (arith, f .2))) ∙ ap terms-of (f .1) in
+            let od : take (length log) taken ≡ orders-of log = sym (orders-are made taken 0 (length log) (omega (arith, f .2))) ∙ ap orders-of (f .1) in
+            rw (e, t, o, f .0, te, od)
+        go headless e f = absurd f
+        go (broken line) e f = absurd (omega (arith, h, ap (λ (x : answers.Opened). x .refusal) f))

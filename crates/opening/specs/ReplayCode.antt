@@ -1,13 +1,13 @@
 -- One line and all lines, as the code comes to them: the answer, the record's struct and the lent log. Assumes nothing.
 use Prim.Native.Nat.{ℕ, suc, _+_, _-_, _≤_, _<_, min}
-use native.Mathlib.Nat.{zero-add, add-zero, sub-zero}
+use native.Mathlib.Nat.{add-zero, sub-zero}
 use native.Mathlib.Numerals.{add-one}
 use native.Mathlib.Omega.{arith}
 use mathlib.Core.Path.{_≡_, refl, sym, ap, _∙_}
 use mathlib.Core.Bool.{Bool, true, false, cond, _&&_, and-false, true≢false}
 use mathlib.Core.List.{List, [], _∷_, _++_}
 use lib.Dec.{eqb, leb}
-use lib.ListN.{length, take, drop, length-append, length-take, take-append-drop}
+use lib.ListN.{length, take, drop, length-append, length-take, length-drop, take-append-drop}
 use lib.Seq.{length-take-le, drop-drop}
 use borrow.Author.Tests.{leb-true, lt-leb}
 use Rattle.digits.specs.Room.{over}
@@ -15,24 +15,27 @@ use Rattle.digits.specs.Tests.{and-left, and-right}
 use Rattle.frames.specs.declared.Entry.{Entry}
 use Rattle.frames.specs.Limits.{log-limit, entry-limit}
 use Rattle.frames.specs.Fields.{listed}
+use Rattle.frames.specs.Clauses.{four}
 use Rattle.frames.specs.Laws.{length-listed}
 use Rattle.frames.specs.ReadingLaws.{length-entries}
-use Rattle.raft.specs.Record.{State, follower, zeros}
+use Rattle.text.specs.Lines.{first-line}
+use Rattle.text.specs.LinesLaws.{first-most}
+use Rattle.raft.specs.Record.{State}
 use Rattle.raft.specs.Journal.{Line}
-use Rattle.frames.specs.Clauses.{four}
 use Rattle.raft.specs.Lent.{entries-of, terms-of, orders-of}
-use Rattle.raft.specs.LentLaws.{length-entries-of, take-entries, terms-long, orders-long, stored-terms, stored-orders, stored-log}
-use Rattle.record.specs.declared.Node.{Node}
-use Rattle.record.specs.Calls.{state-of, node-of}
-use Rattle.record.specs.RoleLaws.{node-same, lent-same}
+use Rattle.raft.specs.LentLaws.{length-entries-of, take-entries, stored-terms, stored-orders}
+use Rattle.record.specs.declared.Record.{Record}
+use Rattle.record.specs.Calls.{state-of, record-of}
+use Rattle.record.specs.SameLaws.{record-same, lent-same, written-log}
+use Rattle.journal.specs.Lines.{lines, whole-bytes, count-in, line-shaped, line-in}
+use Rattle.journal.specs.LinesLaws.{lines-none, lines-first, counted-none, counted-line}
+use Rattle.journal.specs.Opening.{restarted, is-of-box, term-holds, vote-is, vote-stays, kept-holds, count-holds, entries-hold, allows, after}
+use Rattle.journal.specs.Opening.{Replayed, next, breaks, replayed, Opened, opened, headless, broken, go-on, replay}
 use Rattle.opening.specs.declared.Told.{Told}
 use Rattle.opening.specs.declared.Replayed as declared
 use Rattle.opening.specs.declared.Opened as answers
-use Rattle.journal.specs.Lines.{lines, whole-bytes, count-in, line-shaped, line-in}
-use Rattle.journal.specs.LinesLaws.{Whole, lines-none, lines-first, counted-none, counted-line}
-use Rattle.journal.specs.Opening.{stored, is-of-box, term-holds, vote-is, vote-stays, kept-holds, count-holds, entries-hold, allows, after, Replayed, next, breaks, replayed, Opened, opened, headless, broken, go-on, replay}
-use Rattle.opening.specs.Calls.{first-line, line-of, allows-numbers, Replaying, replaying-by, replaying, none, Found}
-use Rattle.opening.specs.CodeLaws.{first-none, first-most, first-whole, allows-by, Numbers, numbers}
+use Rattle.opening.specs.Calls.{LentLog, line-of, allows-numbers, Advances, Replaying, replaying-by, replaying, Replays, none, Found, Begins}
+use Rattle.opening.specs.CodeLaws.{first-none, first-whole, allows-by, Numbers, numbers}
 
 -- ---- one line
 
@@ -50,35 +53,37 @@ count-few s l h =
     let front = is-of-box s l && term-holds s l && vote-is s l && vote-stays s l in
     leb-true _ _ (and-right (leb (l .kept + length (l .entries)) log-limit) _ (four front (kept-holds s l) (count-holds l) (entries-hold s l) h .2))
 
-module _ (b : Node) (bytes terms orders : List ℕ) where
+module _ (b : Record) (bytes terms orders : List ℕ) where
   abbrev s : State
   s = state-of b terms orders
 
-  abbrev as-it-was : Replaying
-  as-it-was = record { answer = record { refusal = 10; node = b }; terms = terms; orders = orders }
+  -- A line that breaks a rule is answered so, and all is as it was.
+  module _ {r : declared.Replayed} (f : r ≡ record { refusal = 10; state = b }) where
+    pub replay-unshaped : line-shaped bytes ≡ false → Replays b bytes terms orders r terms orders
+    unfolding replaying replaying-by replayed
+    replay-unshaped h = rw (h, f)
 
-  pub replay-unshaped : line-shaped bytes ≡ false → as-it-was ≡ replaying b bytes terms orders
-  unfolding replaying replaying-by replayed
-  replay-unshaped h = rw h
+    pub replay-refused : allows s (line-in bytes) ≡ false → Replays b bytes terms orders r terms orders
+    unfolding replaying replaying-by replayed
+    replay-refused h = rw (h, and-false (line-shaped bytes), f)
 
-  pub replay-refused : allows s (line-in bytes) ≡ false → as-it-was ≡ replaying b bytes terms orders
-  unfolding replaying replaying-by replayed
-  replay-refused h = rw (h, and-false (line-shaped bytes))
-
-  -- more entries than a line has
-  pub replay-many : 4 < count-in bytes → as-it-was ≡ replaying b bytes terms orders
-  unfolding line-in
-  replay-many h = replay-refused (go (allows s (line-in bytes)) refl)
-    where
-      go : (x : Bool) → allows s (line-in bytes) ≡ x → allows s (line-in bytes) ≡ false
-      go true e = absurd (omega (arith, h, count-few s (line-in bytes) e, length-entries bytes 22 (count-in bytes)))
-      go false e = e
+    -- more entries than a line has
+    pub replay-many : 4 < count-in bytes → Replays b bytes terms orders r terms orders
+    unfolding line-in
+    replay-many h = replay-refused (go (allows s (line-in bytes)) refl)
+      where
+        go : (x : Bool) → allows s (line-in bytes) ≡ x → allows s (line-in bytes) ≡ false
+        go true e = absurd (omega (arith, h, count-few s (line-in bytes) e, length-entries bytes 22 (count-in bytes)))
+        go false e = e
 
   -- a good line
-  module _ (l : Told) (h : line-shaped bytes ≡ true) (e : line-of l ≡ line-in bytes) (a : allows s (line-of l) ≡ true) (p : length terms ≡ log-limit)
-      (q : length orders ≡ log-limit) where
+  module _ (l : Told) (h : line-shaped bytes ≡ true) (e : line-of l ≡ line-in bytes) (a : allows s (line-of l) ≡ true)
+      (lent : LentLog terms orders) where
     abbrev es : List Entry
     es = listed (l .entries) 0 (l .count)
+
+    abbrev log : List Entry
+    log = take (l .kept) (entries-of terms orders 0 (b .last)) ++ es
 
     fits : Numbers b l
     fits = numbers b l (and-left (allows-numbers b l) _ (sym (allows-by b l terms orders) ∙ a))
@@ -92,7 +97,7 @@ module _ (b : Node) (bytes terms orders : List ℕ) where
         kept-min : min (l .kept) (l .kept) ≡ min (l .kept) (b .last)
         kept-min = omega (arith, fits .inside)
 
-    long : length (take (l .kept) (entries-of terms orders 0 (b .last)) ++ es) ≡ l .kept + l .count
+    long : length log ≡ l .kept + l .count
     long =
         rw (
           length-append,
@@ -100,32 +105,36 @@ module _ (b : Node) (bytes terms orders : List ℕ) where
           length-listed (l .entries) 0 (l .count),
         )
 
-    pub replay-next : (n : Node) {terms' orders' : List ℕ}
-        → n
-        ≡ record {
-          me = b .me;
-          members = b .members;
-          term = l .term;
-          vote = l .vote;
-          last = l .kept + l .count;
-          commit = 0;
-          role = follower;
-          votes = 0;
-          next = zeros;
-          matched = zeros;
-        }
+    stored : (over terms (l .kept) (terms-of es) ≡ over terms 0 (terms-of log)) × (over orders (l .kept) (orders-of es) ≡ over orders 0 (orders-of log))
+    stored =
+        rw (← front) (
+          stored-terms terms orders (l .kept) (l .kept) es (omega arith) (omega (arith, fits .room, lent .terms-long)) (omega (arith, fits .room, lent .orders-long)),
+          stored-orders terms orders (l .kept) (l .kept) es (omega arith) (omega (arith, fits .room, lent .terms-long)) (omega (arith, fits .room, lent .orders-long)),
+        )
+
+    goes : replayed s bytes ≡ next (after s (line-of l))
+    unfolding replayed
+    goes = rw (h, ← e, a)
+
+    pub replay-next : {n : Record} {terms' orders' : List ℕ} → Advances b l n
         → terms' ≡ over terms (l .kept + 0) (terms-of (listed (l .entries) 0 (l .count - 0)))
         → orders' ≡ over orders (l .kept + 0) (orders-of (listed (l .entries) 0 (l .count - 0)))
-        → _≡_ {A = Replaying} (record { answer = record { refusal = 0; node = n }; terms = terms'; orders = orders' }) (replaying b bytes terms orders)
-    unfolding replaying replaying-by replayed after stored
-    replay-next n f t o =
-        rw (h, ← e, a, f, t, o, long, add-zero, sub-zero, ← front, stored-terms terms orders (l .kept) (l .kept) es (omega arith) (omega (arith, fits .room)) (omega (arith, fits .room)), stored-orders terms orders (l .kept) (l .kept) es (omega arith) (omega (arith, fits .room)) (omega (arith, fits .room)))
+        → Replays b bytes terms orders (record { refusal = 0; state = n }) terms' orders'
+    unfolding replaying replaying-by after restarted
+    replay-next {n} {terms'} {orders'} f t o = leaves ∙ sym (ap (λ (x : Replayed). replaying-by x b terms orders) goes)
+      where
+        made : n ≡ record-of (after s (line-of l))
+        made = record-same n log (long ∙ sym (f .last)) ∙ ap record-of (f .state log long)
 
--- ---- all lines
+        leaves : _≡_ {A = Replaying} (record { answer = record { refusal = 0; state = n }; terms = terms'; orders = orders' })
+            (replaying-by (next (after s (line-of l))) b terms orders)
+        leaves = rw (made, t, o, add-zero, sub-zero, stored .0, stored .1)
+
+-- ---- what a line leaves
 
 -- a replayed log fits
 pub replayed-room : (s : State) (bytes : List ℕ) (t : State) → replayed s bytes ≡ next t → length (t .log) ≤ log-limit
-unfolding replayed after stored allows
+unfolding replayed after restarted allows
 replayed-room s bytes t = go (line-shaped bytes && allows s (line-in bytes)) refl
   where
     go : (b : Bool) → (line-shaped bytes && allows s (line-in bytes)) ≡ b → cond b (next (after s (line-in bytes))) breaks ≡ next t → length (t .log) ≤ log-limit
@@ -135,47 +144,53 @@ replayed-room s bytes t = go (line-shaped bytes && allows s (line-in bytes)) ref
         rw (← same) (rw length-append (omega (arith, room, length-take (line-in bytes .kept) (s .log))))
     go false a e = let never : _≡_ {A = Bool} true false = cc in absurd (true≢false never)
 
--- What a good line leaves: the next record, and a struct and a log that are it.
-pub record Goes (b : Node) (bytes terms orders : List ℕ) (one : declared.Replayed) (terms' orders' : List ℕ) : Type 0 where
-  pub to : State
-  pub is : replayed (state-of b terms orders) bytes ≡ next to
-  pub same : state-of (one .node) terms' orders' ≡ to
-  pub room : one .node .last ≤ log-limit
-
-module _ (b : Node) (bytes terms orders : List ℕ) (p : length terms ≡ log-limit) (q : length orders ≡ log-limit) (one : declared.Replayed)
-    (terms' orders' : List ℕ) (e : _≡_ {A = Replaying} (record { answer = one; terms = terms'; orders = orders' }) (replaying b bytes terms orders)) where
+module _ (b : Record) (bytes terms orders : List ℕ) {one : declared.Replayed} {terms' orders' : List ℕ}
+    (e : Replays b bytes terms orders one terms' orders') where
   abbrev told : Replayed
   told = replayed (state-of b terms orders) bytes
 
-  -- a line that breaks a rule
+  by : {r : Replayed} → told ≡ r
+      → _≡_ {A = Replaying} (record { answer = one; terms = terms'; orders = orders' }) (replaying-by r b terms orders)
+  unfolding replaying
+  by k = e ∙ ap (λ (x : Replayed). replaying-by x b terms orders) k
+
+  -- A line that breaks a rule
   pub line-breaks : (one .refusal ≡ 0 → ⊥) → told ≡ breaks
-  unfolding replaying replaying-by
+  unfolding replaying-by
   line-breaks h = go told refl
     where
       go : (r : Replayed) → told ≡ r → told ≡ breaks
-      go (next t) k = absurd (h (ap (λ (x : Replaying). x .answer .refusal) e ∙ ap (λ (x : Replayed). replaying-by x b terms orders .answer .refusal) k))
+      go (next t) k = absurd (h (ap (λ (x : Replaying). x .answer .refusal) (by k)))
       go breaks k = k
 
-  -- and one that is good
-  pub line-goes : one .refusal ≡ 0 → Goes b bytes terms orders one terms' orders'
-  unfolding replaying replaying-by
+  -- leaves the log,
+  pub broken-leaves : (one .refusal ≡ 0 → ⊥) → (terms' ≡ terms) × (orders' ≡ orders)
+  unfolding replaying-by
+  broken-leaves h =
+      (ap (λ (x : Replaying). x .terms) (by (line-breaks h)), ap (λ (x : Replaying). x .orders) (by (line-breaks h)))
+
+  -- and a good one leaves the next record: a struct and a log that are it, and fit.
+  pub record Goes : Type 0 where
+    pub to : State
+    pub is : told ≡ next to
+    pub same : state-of (one .state) terms' orders' ≡ to
+    pub room : one .state .last ≤ log-limit
+
+  pub line-goes : one .refusal ≡ 0 → Goes
+  unfolding replaying-by
   line-goes h = go told refl
     where
-      go : (r : Replayed) → told ≡ r → Goes b bytes terms orders one terms' orders'
-      go breaks k = absurd (omega (arith, h, ap (λ (x : Replaying). x .answer .refusal) e ∙ ap (λ (x : Replayed). replaying-by x b terms orders .answer .refusal) k))
+      go : (r : Replayed) → told ≡ r → Goes
+      go breaks k = absurd (omega (arith, h, ap (λ (x : Replaying). x .answer .refusal) (by k)))
       go (next t) k =
-          let fits = replayed-room (state-of b terms orders) bytes t k in
-          let all : _≡_ {A = Replaying} (record { answer = one; terms = terms'; orders = orders' }) (replaying-by (next t) b terms orders) = e ∙ ap (λ (x : Replayed). replaying-by x b terms orders) k in
-          let node : one .node ≡ node-of t = ap (λ (x : Replaying). x .answer .node) all in
-          let te : terms' ≡ over terms 0 (terms-of (t .log)) = ap (λ (x : Replaying). x .terms) all in
-          let od : orders' ≡ over orders 0 (orders-of (t .log)) = ap (λ (x : Replaying). x .orders) all in
-          let made : List ℕ = over terms 0 (terms-of (t .log)) in
-          let taken : List ℕ = over orders 0 (orders-of (t .log)) in
+          let state : one .state ≡ record-of t = ap (λ (x : Replaying). x .answer .state) (by k) in
+          let te : terms' ≡ over terms 0 (terms-of (t .log)) = ap (λ (x : Replaying). x .terms) (by k) in
+          let od : orders' ≡ over orders 0 (orders-of (t .log)) = ap (λ (x : Replaying). x .orders) (by k) in
           record {
             to = t;
             is = k;
-            same = rw (node, te, od) (lent-same t made taken (sym (ap (entries-of made taken 0) (sym (zero-add (length (t .log)))) ∙ stored-log terms orders 0 0 (t .log) (omega arith) (omega arith) (omega arith) (omega (arith, fits)) (omega (arith, fits)))));
-            room = rw node fits;
+            same = rw (state, te, od) (lent-same t _ _ (written-log (t .log) terms orders));
+            room = rw state (replayed-room (state-of b terms orders) bytes t k);
           }
 
 -- ---- where the lines are
@@ -215,45 +230,69 @@ module _ (bytes : List ℕ) (first : ℕ) (start : State) where
   abbrev whole : ℕ
   whole = first + whole-bytes (drop first bytes)
 
-  abbrev end : Opened
-  end = replay whole start 2 (lines (drop first bytes))
+  abbrev all : Opened
+  all = replay whole start 2 (lines (drop first bytes))
 
   -- What was replayed up to a place, and what is to be replayed yet, make the whole opening.
-  pub record Stands (node : Node) (terms orders : List ℕ) (at number : ℕ) : Type 0 where
-    pub reached : whole ≡ at + whole-bytes (drop at bytes)
-    pub same : end ≡ replay whole (state-of node terms orders) number (lines (drop at bytes))
+  pub record Reached (state : Record) (terms orders : List ℕ) (at number : ℕ) : Type 0 where
+    pub lent : LentLog terms orders
+    pub inside : at ≤ length bytes
+    pub counted : number ≤ at
+    pub room : state .last ≤ log-limit
+    pub bytes-left : whole ≡ at + whole-bytes (drop at bytes)
+    pub same : all ≡ replay whole (state-of state terms orders) number (lines (drop at bytes))
 
-  pub stands-first : (node : Node) (terms orders : List ℕ) → start ≡ state-of node terms orders → Stands node terms orders first 2
-  stands-first node terms orders e = record { reached = refl; same = rw e }
+pub reached-first : {start : Record} {bytes : List ℕ} {first : ℕ} {terms orders : List ℕ} → Begins start bytes first terms orders
+    → Reached bytes first (state-of start terms orders) start terms orders first 2
+reached-first b =
+    record { lent = b .lent; inside = b .inside; counted = b .behind; room = b .room; bytes-left = refl; same = refl }
 
-  module _ (node : Node) (terms orders : List ℕ) (at number : ℕ) (s : Stands node terms orders at number) (h : at ≤ length bytes) where
-    -- no line is left
-    pub stands-done : first-line (drop at bytes) ≡ 0 → node .last ≤ log-limit
-        → Found (record { refusal = 0; node = node; bytes = at; line = 0 }) terms orders end
-    unfolding Found replay
-    stands-done e l =
-        rw (s .same, lines-end bytes at h e .0)
-        (rw (reached, ← node-same node terms orders), rw (length-entries-of terms orders 0 (node .last)), rw (length-entries-of terms orders 0 (node .last)) l)
-      where
-        reached : whole ≡ at
-        reached = s .reached ∙ omega (arith, lines-end bytes at h e .1)
+module _ {bytes : List ℕ} {first : ℕ} {start : State} {state : Record} {terms orders : List ℕ} {at number : ℕ}
+    (s : Reached bytes first start state terms orders at number) {end : ℕ} (e : end ≡ at + first-line (drop at bytes)) where
+  -- a line ends within the bytes
+  pub end-inside : end ≤ length bytes
+  end-inside = omega (arith, e, s .inside, first-most (drop at bytes), length-drop at bytes)
 
-    module _ (n : first-line (drop at bytes) ≡ 0 → ⊥) where
-      abbrev line : List ℕ
-      line = take (first-line (drop at bytes)) (drop at bytes)
+  -- no line is left
+  pub reached-end : end ≡ at → Found (record { refusal = 0; state = state; bytes = at; line = 0 }) terms orders (all bytes first start)
+  unfolding Found replay
+  reached-end z =
+      rw (s .same, lines-end bytes at (s .inside) none-left .0)
+      (rw (all-passed, ← record-same state (entries-of terms orders 0 (state .last)) long), rw long, rw long (s .room))
+    where
+      none-left : first-line (drop at bytes) ≡ 0
+      none-left = omega (arith, e, z)
 
-      -- a line that breaks a rule
-      pub stands-broken : (ts os : List ℕ) → replayed (state-of node terms orders) line ≡ breaks
-          → Found (record { refusal = 10; node = none; bytes = 0; line = number }) ts os end
-      unfolding Found replay go-on
-      stands-broken ts os b = rw (s .same, lines-next bytes at h n .0, b) refl
+      all-passed : whole bytes first start ≡ at
+      all-passed = s .bytes-left ∙ omega (arith, lines-end bytes at (s .inside) none-left .1)
 
-      -- and a good one
-      pub stands-next : (one : declared.Replayed) (terms' orders' : List ℕ) → Goes node line terms orders one terms' orders'
-          → Stands (one .node) terms' orders' (at + first-line (drop at bytes)) (number + 1)
-      unfolding replay go-on
-      stands-next one terms' orders' g =
-          record {
-            reached = omega (arith, s .reached, lines-next bytes at h n .1);
-            same = s .same ∙ rw (lines-next bytes at h n .0, g .is, g .same, add-one number);
-          }
+      long : length (entries-of terms orders 0 (state .last)) ≡ state .last
+      long = length-entries-of terms orders 0 (state .last)
+
+  module _ (z : end ≡ at → ⊥) {one : declared.Replayed} {terms' orders' : List ℕ}
+      (a : Replays state (take (end - at) (drop at bytes)) terms orders one terms' orders') where
+    some : first-line (drop at bytes) ≡ 0 → ⊥
+    some q = z (omega (arith, e, q))
+
+    gone : end - at ≡ first-line (drop at bytes)
+    gone = omega (arith, e)
+
+    -- a line that breaks a rule
+    pub reached-broken : (one .refusal ≡ 0 → ⊥) → {r : answers.Opened} → r ≡ record { refusal = 10; state = none; bytes = 0; line = number }
+        → (ts os : List ℕ) → Found r ts os (all bytes first start)
+    unfolding Found replay go-on
+    reached-broken q f ts os = rw (s .same, lines-next bytes at (s .inside) some .0, ← gone, line-breaks _ _ _ _ a q) f
+
+    -- and a good one
+    pub reached-next : one .refusal ≡ 0 → LentLog terms' orders' → Reached bytes first start (one .state) terms' orders' end (number + 1)
+    unfolding replay go-on
+    reached-next q lent =
+        let goes = line-goes _ _ _ _ a q in
+        record {
+          lent = lent;
+          inside = end-inside;
+          counted = omega (arith, e, s .counted, z);
+          room = goes .room;
+          bytes-left = rw e (omega (arith, s .bytes-left, lines-next bytes at (s .inside) some .1));
+          same = s .same ∙ rw (lines-next bytes at (s .inside) some .0, ← e, ← gone, goes .is, goes .same, add-one number);
+        }

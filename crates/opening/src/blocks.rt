@@ -2,15 +2,12 @@
 use crate::Block;
 use crate::Replayed;
 use crate::lines::head_mask;
-use crate::lines::line_end;
-use crate::whole::fresh;
 use crate::whole::replay;
-use record::Node;
+use changes::fresh;
+use record::Record;
+use text::line_end;
 ghost use mathlib.Core.Path.{_≡_};
-ghost use Prim.Native.Nat.{_≤_};
-ghost use lib.ListN.{length};
-ghost use Rattle.frames.specs.Limits.{log-limit};
-ghost use Rattle.opening.specs.Calls.{heading, Blocks, replaying-lines};
+ghost use Rattle.opening.specs.Calls.{heading, ReplaysLines};
 
 // The head alone: the fresh record of the box asked for, or 11.
 pub fn replay_head(me: u8, line: &[u8]) -> Replayed
@@ -21,25 +18,23 @@ pub fn replay_head(me: u8, line: &[u8]) -> Replayed
         let none = fresh(0, 0);
         return Replayed {
             refusal: 11,
-            node: none,
+            state: none,
         };
     }
-    let node = fresh(me, mask);
-    Replayed { refusal: 0, node }
+    let state = fresh(me, mask);
+    Replayed { refusal: 0, state }
 }
 
 // The whole lines of some bytes over a record, up to the first that breaks a rule.
 pub fn replay_lines(
-    n: Node,
+    n: Record,
     bytes: &[u8],
-    terms: &mut [u32; Node::LOG],
-    orders: &mut [u64; Node::LOG],
+    terms: &mut [u32; Record::LOG],
+    orders: &mut [u64; Record::LOG],
 ) -> Block
-    ensures { λ r. ⌜ _≡_ {A = Blocks} (record { answer = r; terms = now (terms .exit); orders = now (orders .exit) }) (replaying-lines n (now (bytes .entry)) (now (terms .entry)) (now (orders .entry))) ⌝ }
-    ensures { λ r. ⌜ r .bytes ≤ length (now (bytes .entry)) ⌝ }
-    ensures { λ r. ⌜ (n .last ≤ log-limit → r .node .last ≤ log-limit) ⌝ }
+    ensures { λ r. ⌜ ReplaysLines n (now (bytes .entry)) (now (terms .entry)) (now (orders .entry)) r (now (terms .exit)) (now (orders .exit)) ⌝ }
 {
-    let mut node = n;
+    let mut state = n;
     let mut at = 0;
     let mut lines: usize = 0;
     loop {
@@ -47,21 +42,21 @@ pub fn replay_lines(
         if end == at {
             return Block {
                 refusal: 0,
-                node,
+                state,
                 bytes: at,
                 lines,
             };
         }
-        let one = replay(node, &bytes[at..end], terms, orders);
+        let one = replay(state, &bytes[at..end], terms, orders);
         if one.refusal != 0 {
             return Block {
                 refusal: 10,
-                node,
+                state,
                 bytes: at,
                 lines,
             };
         }
-        node = one.node;
+        state = one.state;
         at = end;
         lines += 1;
     }

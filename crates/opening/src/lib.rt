@@ -7,8 +7,7 @@ pub use blocks::replay_head;
 pub use blocks::replay_lines;
 use frames::Entry;
 pub use lines::is_head_shaped;
-pub use lines::line_end;
-use record::Node;
+use record::Record;
 pub use whole::open;
 pub use whole::replay;
 
@@ -25,21 +24,23 @@ pub struct Told {
 // One line's answer: 0 and the next record, or 10 and the record as it was.
 pub struct Replayed {
     pub refusal: u8,
-    pub node: Node,
+    pub state: Record,
 }
 
-// Opening's answer: 0, the record and the bytes up to and with the last line feed; or 11; or 10 and the number of the line. On a refusal the record is all zeros.
+// Opening's answer: 0, the record and the bytes up to and with the last line feed; or 11; or 10 and the number of the line.
+// On a refusal the record is all zeros.
 pub struct Opened {
     pub refusal: u8,
-    pub node: Node,
+    pub state: Record,
     pub bytes: usize,
     pub line: usize,
 }
 
-// What was made of a block of lines: 0, or 10 where the line behind those replayed breaks a rule; the record, and how many bytes and lines were replayed.
+// What was made of a block of lines: 0, or 10 where the line behind those replayed breaks a rule; the record, and how many bytes and
+// lines were replayed.
 pub struct Block {
     pub refusal: u8,
-    pub node: Node,
+    pub state: Record,
     pub bytes: usize,
     pub lines: usize,
 }

@@ -1,34 +1,19 @@
-// A journal's lines: where one ends, its form, its fields, and the rules that it keeps behind the record so far.
+// A journal's lines: their form, their fields, and the rules that one keeps behind the record so far.
 use crate::Told;
 use frames::in_order;
-use record::Node;
+use record::Record;
 use rules::is_vote;
 use rules::term_at;
 ghost use mathlib.Core.Path.{_≡_};
-ghost use mathlib.Core.Bool.{true, cond};
+ghost use mathlib.Core.Bool.{cond};
 ghost use mathlib.Core.List.{List};
-ghost use Prim.Native.Nat.{ℕ, _+_, _≤_};
-ghost use lib.ListN.{length, drop};
+ghost use Prim.Native.Nat.{ℕ, _≤_};
+ghost use lib.ListN.{length};
 ghost use Rattle.frames.specs.Limits.{log-limit};
 ghost use Rattle.record.specs.Calls.{state-of};
-ghost use Rattle.journal.specs.Lines.{mask-in, count-in, head-shaped, line-shaped, line-in};
+ghost use Rattle.journal.specs.Lines.{mask-in, head-shaped, line-shaped, line-in};
 ghost use Rattle.journal.specs.Opening.{is-head, allows};
-ghost use Rattle.opening.specs.Calls.{first-line, line-of, allows-numbers};
-
-// The place behind the first line feed from a place on, or that place where there is none.
-pub fn line_end(bytes: &[u8], at: usize) -> usize
-    requires { ⌜ at ≤ length (now bytes) ⌝ }
-    ensures { λ r. ⌜ r ≡ at + first-line (drop at (now (bytes .entry))) ⌝ }
-{
-    let mut i = at;
-    while i < bytes.len() {
-        if bytes[i] == 10 {
-            return i + 1;
-        }
-        i += 1;
-    }
-    at
-}
+ghost use Rattle.opening.specs.Calls.{Readable, line-of, allows-numbers};
 
 // The form of a head: one line, version 01, kind 11, 4 bytes long.
 pub fn is_head_shaped(s: &[u8]) -> bool
@@ -74,8 +59,7 @@ pub fn is_shaped(s: &[u8]) -> bool
 
 // The fields of a line, each from its place.
 pub fn told(s: &[u8]) -> Told
-    requires { ⌜ line-shaped (now s) ≡ true ⌝ }
-    requires { ⌜ count-in (now s) ≤ 4 ⌝ }
+    requires { ⌜ Readable (now s) ⌝ }
     ensures { λ r. ⌜ line-of r ≡ line-in (now (s .entry)) ⌝ }
     ensures { λ r. ⌜ r .count ≤ 4 ⌝ }
 {
@@ -92,7 +76,7 @@ pub fn told(s: &[u8]) -> Told
 }
 
 // The rules but the last, which look at numbers alone.
-fn allows_numbers(n: Node, l: Told) -> bool
+fn allows_numbers(n: Record, l: Told) -> bool
     ensures { λ r. ⌜ r ≡ allows-numbers n l ⌝ }
 {
     (l.who == n.me)
@@ -104,7 +88,7 @@ fn allows_numbers(n: Node, l: Told) -> bool
 }
 
 // Every rule of a line behind the record so far.
-pub fn is_allowed(n: Node, l: Told, terms: &[u32]) -> bool
+pub fn is_allowed(n: Record, l: Told, terms: &[u32]) -> bool
     requires { ⌜ length (now terms) ≡ log-limit ⌝ }
     requires { ⌜ l .count ≤ 4 ⌝ }
     ensures { λ r. ⌜ ((orders : List ℕ) → r ≡ allows (state-of n (now (terms .entry)) orders) (line-of l)) ⌝ }

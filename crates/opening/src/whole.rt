@@ -1,58 +1,49 @@
-// Opening: the head, then one line at a time over a record of fixed size. The log is made aside and handed over only when every line was good.
+// Opening: the head, then one line at a time over a record of fixed size. The log is made aside and handed over only when every line
+// was good.
 use crate::Opened;
 use crate::Replayed;
 use crate::Told;
 use crate::lines::head_mask;
 use crate::lines::is_allowed;
 use crate::lines::is_shaped;
-use crate::lines::line_end;
 use crate::lines::told;
-use record::Node;
+use changes::following;
+use changes::fresh;
+use record::Record;
+use text::line_end;
 ghost use mathlib.Core.Path.{_≡_};
 ghost use Prim.Native.Nat.{_+_, _≤_};
-ghost use lib.ListN.{length, take, drop};
+ghost use lib.ListN.{length, take};
 ghost use Rattle.digits.specs.Room.{over};
 ghost use Rattle.frames.specs.Limits.{log-limit};
-ghost use Rattle.raft.specs.Record.{follower, zeros, fresh};
-ghost use Rattle.record.specs.Calls.{state-of, node-of};
-ghost use Rattle.journal.specs.Lines.{lines, whole-bytes};
-ghost use Rattle.journal.specs.Opening as definition;
-ghost use Rattle.opening.specs.Calls.{Replaying, replaying, none, Found, Opens, opens};
+ghost use Rattle.opening.specs.Calls.{LentLog, Advances, Replays, none, Begins, Finds, Opens};
 
-fn breaks(n: Node) -> Replayed
-    ensures { λ r. ⌜ r ≡ record { refusal = 10; node = n } ⌝ }
+fn breaks(n: Record) -> Replayed
+    ensures { λ r. ⌜ r ≡ record { refusal = 10; state = n } ⌝ }
 {
     Replayed {
         refusal: 10,
-        node: n,
+        state: n,
     }
 }
 
 // The record with a line replayed: a follower, commit 0.
-fn after(n: Node, l: Told) -> Node
+fn after(n: Record, l: Told) -> Record
     requires { ⌜ l .kept + l .count ≤ log-limit ⌝ }
-    ensures { λ r. ⌜ r ≡ record { me = n .me; members = n .members; term = l .term; vote = l .vote; last = l .kept + l .count; commit = 0; role = follower; votes = 0; next = zeros; matched = zeros } ⌝ }
+    ensures { λ r. ⌜ Advances n l r ⌝ }
 {
-    let zeros = [0u16; Node::BOXES];
-    Node {
-        me: n.me,
-        members: n.members,
-        term: l.term,
-        vote: l.vote,
-        last: l.kept + l.count as u16,
-        commit: 0,
-        role: 0,
-        votes: 0,
-        next: zeros,
-        matched: zeros,
-    }
+    let mut r = n;
+    r.term = l.term;
+    r.vote = l.vote;
+    r.last = l.kept + l.count as u16;
+    r.commit = 0;
+    following(r)
 }
 
-// One line over the record so far.
-fn replay_on(n: Node, line: &[u8], terms: &mut [u32], orders: &mut [u64]) -> Replayed
-    requires { ⌜ length (now terms) ≡ log-limit ⌝ }
-    requires { ⌜ length (now orders) ≡ log-limit ⌝ }
-    ensures { λ r. ⌜ _≡_ {A = Replaying} (record { answer = r; terms = now (terms .exit); orders = now (orders .exit) }) (replaying n (now (line .entry)) (now (terms .entry)) (now (orders .entry))) ⌝ }
+// One whole line, with its line feed, over any record: for journals that are longer than memory.
+pub fn replay(n: Record, line: &[u8], terms: &mut [u32], orders: &mut [u64]) -> Replayed
+    requires { ⌜ LentLog (now terms) (now orders) ⌝ }
+    ensures { λ r. ⌜ Replays n (now (line .entry)) (now (terms .entry)) (now (orders .entry)) r (now (terms .exit)) (now (orders .exit)) ⌝ }
 {
     if !is_shaped(line) {
         return breaks(n);
@@ -66,47 +57,17 @@ fn replay_on(n: Node, line: &[u8], terms: &mut [u32], orders: &mut [u64]) -> Rep
     }
     let entries = l.entries;
     rules::store(terms, orders, l.kept as usize, entries, 0, l.count as usize);
-    let node = after(n, l);
-    Replayed { refusal: 0, node }
-}
-
-// One whole line, with its line feed, over any record: for journals that are longer than memory.
-pub fn replay(
-    n: Node,
-    line: &[u8],
-    terms: &mut [u32; Node::LOG],
-    orders: &mut [u64; Node::LOG],
-) -> Replayed
-    ensures { λ r. ⌜ _≡_ {A = Replaying} (record { answer = r; terms = now (terms .exit); orders = now (orders .exit) }) (replaying n (now (line .entry)) (now (terms .entry)) (now (orders .entry))) ⌝ }
-{
-    replay_on(n, line, terms, orders)
-}
-
-pub fn fresh(me: u8, members: u8) -> Node
-    ensures { λ r. ⌜ r ≡ node-of (fresh me members) ⌝ }
-{
-    let zeros = [0u16; Node::BOXES];
-    Node {
-        me,
-        members,
-        term: 0,
-        vote: 0,
-        last: 0,
-        commit: 0,
-        role: 0,
-        votes: 0,
-        next: zeros,
-        matched: zeros,
-    }
+    let state = after(n, l);
+    Replayed { refusal: 0, state }
 }
 
 fn refused(number: u8, line: usize) -> Opened
-    ensures { λ r. ⌜ r ≡ record { refusal = number; node = none; bytes = 0; line = line } ⌝ }
+    ensures { λ r. ⌜ r ≡ record { refusal = number; state = none; bytes = 0; line = line } ⌝ }
 {
-    let node = fresh(0, 0);
+    let state = fresh(0, 0);
     Opened {
         refusal: number,
-        node,
+        state,
         bytes: 0,
         line,
     }
@@ -114,20 +75,16 @@ fn refused(number: u8, line: usize) -> Opened
 
 // The lines from a place on, one after the other.
 fn replay_all(
-    start: Node,
+    start: Record,
     bytes: &[u8],
     first: usize,
     terms: &mut [u32],
     orders: &mut [u64],
 ) -> Opened
-    requires { ⌜ length (now terms) ≡ log-limit ⌝ }
-    requires { ⌜ length (now orders) ≡ log-limit ⌝ }
-    requires { ⌜ first ≤ length (now bytes) ⌝ }
-    requires { ⌜ 2 ≤ first ⌝ }
-    requires { ⌜ start .last ≤ log-limit ⌝ }
-    ensures { λ r. ⌜ Found r (now (terms .exit)) (now (orders .exit)) (definition.replay (first + whole-bytes (drop first (now (bytes .entry)))) (state-of start (now (terms .entry)) (now (orders .entry))) 2 (lines (drop first (now (bytes .entry))))) ⌝ }
+    requires { ⌜ Begins start (now bytes) first (now terms) (now orders) ⌝ }
+    ensures { λ r. ⌜ Finds start (now (bytes .entry)) first (now (terms .entry)) (now (orders .entry)) r (now (terms .exit)) (now (orders .exit)) ⌝ }
 {
-    let mut node = start;
+    let mut state = start;
     let mut at = first;
     let mut number: usize = 2;
     loop {
@@ -135,16 +92,16 @@ fn replay_all(
         if end == at {
             return Opened {
                 refusal: 0,
-                node,
+                state,
                 bytes: at,
                 line: 0,
             };
         }
-        let one = replay_on(node, &bytes[at..end], terms, orders);
+        let one = replay(state, &bytes[at..end], terms, orders);
         if one.refusal != 0 {
             return refused(10, number);
         }
-        node = one.node;
+        state = one.state;
         at = end;
         number += 1;
     }
@@ -167,35 +124,27 @@ fn hand_over(terms: &mut [u32], orders: &mut [u64], made: &[u32], taken: &[u64],
     }
 }
 
-fn open_on(me: u8, bytes: &[u8], terms: &mut [u32], orders: &mut [u64]) -> Opened
-    requires { ⌜ length (now terms) ≡ log-limit ⌝ }
-    requires { ⌜ length (now orders) ≡ log-limit ⌝ }
-    ensures { λ r. ⌜ _≡_ {A = Opens} (record { answer = r; terms = now (terms .exit); orders = now (orders .exit) }) (opens me (now (bytes .entry)) (now (terms .entry)) (now (orders .entry))) ⌝ }
+// A whole journal: the record and the bytes up to and with the last line feed, or 11, or 10 with the line's number.
+pub fn open(
+    me: u8,
+    bytes: &[u8],
+    terms: &mut [u32; Record::LOG],
+    orders: &mut [u64; Record::LOG],
+) -> Opened
+    ensures { λ r. ⌜ Opens me (now (bytes .entry)) (now (terms .entry)) (now (orders .entry)) r (now (terms .exit)) (now (orders .exit)) ⌝ }
 {
     let end = line_end(bytes, 0);
     let mask = head_mask(me, &bytes[..end]);
     if mask == 0 {
         return refused(11, 0);
     }
-    let mut made = [0u32; Node::LOG];
-    let mut taken = [0u64; Node::LOG];
+    let mut made = [0u32; Record::LOG];
+    let mut taken = [0u64; Record::LOG];
     let found = replay_all(fresh(me, mask), bytes, end, &mut made, &mut taken);
     if found.refusal != 0 {
         return found;
     }
-    let node = found.node;
-    hand_over(terms, orders, &made, &taken, node.last as usize);
+    let state = found.state;
+    hand_over(terms, orders, &made, &taken, state.last as usize);
     found
-}
-
-// A whole journal: the record and the bytes up to and with the last line feed, or 11, or 10 with the line's number.
-pub fn open(
-    me: u8,
-    bytes: &[u8],
-    terms: &mut [u32; Node::LOG],
-    orders: &mut [u64; Node::LOG],
-) -> Opened
-    ensures { λ r. ⌜ _≡_ {A = Opens} (record { answer = r; terms = now (terms .exit); orders = now (orders .exit) }) (opens me (now (bytes .entry)) (now (terms .entry)) (now (orders .entry))) ⌝ }
-{
-    open_on(me, bytes, terms, orders)
 }

@@ -7,3 +7,4 @@ pub mod SizeLaws
 pub mod WrittenLaws
 pub mod DecidingLaws
 pub mod ChangeLaws
+pub mod SameLaws

@@ -12,22 +12,20 @@ fresh-requires c κs = search needs
 
 returns : tie.Need-returns
 returns c =
-    let entered = c .before .before .before .before in
-    let head-mask = c .before .before .head-mask in
-    let if1 = c .before .if1 in
-    let fresh = c .fresh in
-    no-head (entered .args .me) _ (entered .args .line .now) (head-mask .ensures) (if1 .taken) (fresh .ensures)
+    let at-if1 = c .before in
+    let at-head-mask = at-if1 .before in
+    let entered = at-head-mask .before .before in
+    no-head (entered .args .me) (entered .args .line .now) (at-head-mask .head-mask .ensures) (at-if1 .if1 .taken) (c .fresh .ensures)
 
 fresh-requires-2 : tie.Need-fresh-requires-2
 fresh-requires-2 c κs = search needs
 
 returns-2 : tie.Need-returns-2
 returns-2 c =
-    let entered = c .before .before .before .before in
-    let head-mask = c .before .before .head-mask in
-    let if1 = c .before .if1 in
-    let fresh2 = c .fresh2 in
-    a-head (entered .args .me) _ (entered .args .line .now) (head-mask .ensures) (if1 .left) (fresh2 .ensures)
+    let at-if1 = c .before in
+    let at-head-mask = at-if1 .before in
+    let entered = at-head-mask .before .before in
+    a-head (entered .args .me) (entered .args .line .now) (at-head-mask .head-mask .ensures) (at-if1 .if1 .left) (c .fresh2 .ensures)
 
 pub replay-head-spec : {M : Type 1} → statement M
 replay-head-spec =

@@ -1,6 +1,5 @@
 -- The clauses are the definition's own.
 use borrow.Author.Needs.{needs}
-use mathlib.Core.Path.{_≡_, refl, sym, ap, _∙_}
 use Rattle.opening.proofs.lines.allows_numbers.Statement.{statement}
 use Rattle.opening.proofs.lines.allows_numbers.Tie as tie
 
@@ -17,7 +16,9 @@ add-result : tie.Need-add-result
 add-result c = search needs
 
 returns : tie.Need-returns
-returns c = rw (c .before .before .before .before .before .before .before .before .before .before .is-vote .ensures)
+returns c =
+    let at-is-vote = c .before .before .before .before .before .before .before .before .before .before in
+    rw (at-is-vote .is-vote .ensures)
 
 pub allows-numbers-spec : {M : Type 1} → statement M
 allows-numbers-spec =

@@ -1,9 +1,9 @@
 -- The rules on the numbers, and then the entry rule (`allows-by`).
 use borrow.Author.Needs.{needs}
 use native.Mathlib.Omega.{arith}
-use mathlib.Core.Path.{_≡_, refl, sym, ap, _∙_}
+use mathlib.Core.Path.{_≡_, sym, _∙_}
 use borrow.Author.Tests.{not-true, not-false}
-use Rattle.opening.specs.CodeLaws.{allows-by, Numbers, numbers}
+use Rattle.opening.specs.CodeLaws.{allows-by, numbers}
 use Rattle.opening.proofs.lines.is_allowed.Statement.{statement}
 use Rattle.opening.proofs.lines.is_allowed.Tie as tie
 
@@ -12,24 +12,35 @@ allows-numbers-requires c κs = search needs
 
 returns : tie.Need-returns
 returns c =
-    let entered = c .before .before .before in
-    λ orders. sym (rw (allows-by (entered .args .n) (entered .args .l) (entered .args .terms .now) orders, sym (c .before .allows-numbers .ensures) ∙ not-true _ (c .if1 .taken)))
+    let at-rules = c .before in
+    let entered = at-rules .before .before in
+    let broken = sym (at-rules .allows-numbers .ensures) ∙ not-true _ (c .if1 .taken) in
+    λ orders. sym (rw (allows-by (entered .args .n) (entered .args .l) (entered .args .terms .now) orders, broken))
 
 cast-in-order : tie.Need-cast-in-order
 cast-in-order c = search needs
 
 term-at-requires : tie.Need-term-at-requires
 term-at-requires c κs =
-    let entered = c .before .before .before .before .before in
-    omega (arith, (numbers (entered .args .n) (entered .args .l) (sym (c .before .before .before .allows-numbers .ensures) ∙ not-false _ (c .before .before .if1 .left))) .room, entered .pre .0)
+    let at-if1 = c .before .before in
+    let at-rules = at-if1 .before in
+    let entered = at-rules .before .before in
+    let kept = numbers (entered .args .n) (entered .args .l) (sym (at-rules .allows-numbers .ensures) ∙ not-false _ (at-if1 .if1 .left)) in
+    omega (arith, kept .room, entered .pre)
 
 in-order-requires : tie.Need-in-order-requires
 in-order-requires c κs = search needs
 
 returns-2 : tie.Need-returns-2
 returns-2 c =
-    let entered = c .before .before .before .before .before .before .before in
-    λ orders. c .in-order .ensures ∙ sym (rw (allows-by (entered .args .n) (entered .args .l) (entered .args .terms .now) orders, sym (c .before .before .before .before .before .allows-numbers .ensures) ∙ not-false _ (c .before .before .before .before .if1 .left), sym (c .before .term-at .ensures orders (entered .args .n .last) ((numbers (entered .args .n) (entered .args .l) (sym (c .before .before .before .before .before .allows-numbers .ensures) ∙ not-false _ (c .before .before .before .before .if1 .left))) .inside))))
+    let at-term-at = c .before in
+    let at-if1 = at-term-at .before .before .before in
+    let at-rules = at-if1 .before in
+    let entered = at-rules .before .before in
+    let hold = sym (at-rules .allows-numbers .ensures) ∙ not-false _ (at-if1 .if1 .left) in
+    let inside = numbers (entered .args .n) (entered .args .l) hold .inside in
+    let by = allows-by (entered .args .n) (entered .args .l) (entered .args .terms .now) in
+    λ orders. c .in-order .ensures ∙ sym (rw (by orders, hold, sym (at-term-at .term-at .ensures orders (entered .args .n .last) inside)))
 
 pub is-allowed-spec : {M : Type 1} → statement M
 is-allowed-spec =

@@ -1,7 +1,7 @@
 -- The tests are the definition's own.
 use borrow.Author.Needs.{needs}
 use native.Mathlib.Omega.{arith}
-use mathlib.Core.Path.{_≡_, refl, sym, ap, _∙_}
+use mathlib.Core.Path.{_≡_, sym, _∙_}
 use borrow.Author.Tests.{not-true, not-false}
 use Rattle.frames.specs.ReadingLaws.{line-run}
 use Rattle.frames.specs.Reading.{version, kind}
@@ -11,22 +11,44 @@ use Rattle.opening.proofs.lines.is_shaped.Statement.{statement}
 use Rattle.opening.proofs.lines.is_shaped.Tie as tie
 
 returns : tie.Need-returns
-returns c = sym (shaped-short (c .before .before .args .s .now) (c .if1 .taken))
+returns c =
+    let entered = c .before .before in
+    sym (shaped-short (entered .args .s .now) (c .if1 .taken))
 
 is-line-requires : tie.Need-is-line-requires
 is-line-requires c κs = search needs
 
 returns-2 : tie.Need-returns-2
-returns-2 c = sym (shaped-no-line (c .before .before .before .before .args .s .now) (sym (c .before .is-line .ensures) ∙ not-true _ (c .if2 .taken)))
+returns-2 c =
+    let at-is-line = c .before in
+    let entered = at-is-line .before .before .before in
+    sym (shaped-no-line (entered .args .s .now) (sym (at-is-line .is-line .ensures) ∙ not-true _ (c .if2 .taken)))
 
 get-u8-requires : tie.Need-get-u8-requires
-get-u8-requires c κs = omega (arith, line-run (c .before .before .before .before .args .s .now) (sym (c .before .is-line .ensures) ∙ not-false _ (c .if2 .left)), c .before .before .if1 .left)
+get-u8-requires c κs =
+    let at-is-line = c .before in
+    let at-if1 = at-is-line .before in
+    let entered = at-if1 .before .before in
+    let line = sym (at-is-line .is-line .ensures) ∙ not-false _ (c .if2 .left) in
+    omega (arith, line-run (entered .args .s .now) line, at-if1 .if1 .left)
 
 get-u8-requires-2 : tie.Need-get-u8-requires-2
-get-u8-requires-2 c κs = omega (arith, line-run (c .before .before .before .before .before .args .s .now) (sym (c .before .before .is-line .ensures) ∙ not-false _ (c .before .if2 .left)), c .before .before .before .if1 .left)
+get-u8-requires-2 c κs =
+    let at-if2 = c .before in
+    let at-is-line = at-if2 .before in
+    let at-if1 = at-is-line .before in
+    let entered = at-if1 .before .before in
+    let line = sym (at-is-line .is-line .ensures) ∙ not-false _ (at-if2 .if2 .left) in
+    omega (arith, line-run (entered .args .s .now) line, at-if1 .if1 .left)
 
 get-u8-requires-3 : tie.Need-get-u8-requires-3
-get-u8-requires-3 c κs = omega (arith, line-run (c .before .before .before .before .before .before .args .s .now) (sym (c .before .before .before .is-line .ensures) ∙ not-false _ (c .before .before .if2 .left)), c .before .before .before .before .if1 .left)
+get-u8-requires-3 c κs =
+    let at-if2 = c .before .before in
+    let at-is-line = at-if2 .before in
+    let at-if1 = at-is-line .before in
+    let entered = at-if1 .before .before in
+    let line = sym (at-is-line .is-line .ensures) ∙ not-false _ (at-if2 .if2 .left) in
+    omega (arith, line-run (entered .args .s .now) line, at-if1 .if1 .left)
 
 cast-result : tie.Need-cast-result
 cast-result c = search needs
@@ -39,7 +61,14 @@ add-result c = search needs
 
 returns-3 : tie.Need-returns-3
 unfolding version kind count-in
-returns-3 c = shaped-by (c .before .before .before .before .before .before .before .args .s .now) _ _ _ (sym (c .before .before .before .before .is-line .ensures) ∙ not-false _ (c .before .before .before .if2 .left)) (c .before .before .get-u8 .ensures) (c .before .get-u82 .ensures) (c .get-u83 .ensures)
+returns-3 c =
+    let at-kind = c .before in
+    let at-version = at-kind .before in
+    let at-if2 = at-version .before in
+    let at-is-line = at-if2 .before in
+    let entered = at-is-line .before .before .before in
+    let line = sym (at-is-line .is-line .ensures) ∙ not-false _ (at-if2 .if2 .left) in
+    shaped-by (entered .args .s .now) _ _ _ line (at-version .get-u8 .ensures) (at-kind .get-u82 .ensures) (c .get-u83 .ensures)
 
 pub is-shaped-spec : {M : Type 1} → statement M
 is-shaped-spec =

@@ -1,11 +1,11 @@
--- The entries up to a place are handed over; the next goes behind them (`hand-next`).
+-- The entries up to a place are handed over; the next goes behind them (`copy-next`).
 use borrow.Author.Needs.{needs}
 use native.Mathlib.Omega.{arith}
-use mathlib.Core.Path.{_≡_, refl, sym, ap, _∙_}
+use mathlib.Core.Path.{_≡_, refl, ap, _∙_}
 use Prim.Native.Nat.{_-_, _≤_}
 use lib.ListN.{length, take}
 use Rattle.digits.specs.Room.{over}
-use Rattle.opening.specs.CodeLaws.{hand-none, hand-next}
+use Rattle.text.specs.Copying.{copy-none, copy-next}
 use Rattle.opening.proofs.whole.hand_over.Statement.{statement}
 use Rattle.opening.proofs.whole.hand_over.Tie as tie
 
@@ -19,8 +19,9 @@ abbrev μ-loop : tie.MeasureT-loop
 
 loop-holds : tie.Need-loop-holds Inv-loop μ-loop
 loop-holds c =
-    let entered = c in
-    (omega arith, refl, refl, hand-none (entered .args .terms .now) (entered .args .made .now), hand-none (entered .args .orders .now) (entered .args .taken .now))
+    let terms = c .args .terms .now in
+    let orders = c .args .orders .now in
+    (omega arith, refl, refl, copy-none terms (c .args .made .now), copy-none orders (c .args .taken .now))
 
 mul-terms : tie.Need-mul-terms Inv-loop μ-loop
 mul-terms c = search needs
@@ -54,8 +55,12 @@ loop-less c = search needs
 
 loop-again : tie.Need-loop-again Inv-loop μ-loop
 loop-again c =
-    let entered = c .before .before .before .before in
-    (omega arith, search needs, search needs, hand-next (entered .args .terms .now) (entered .args .made .now) (c .before .before .before .loop .i) (omega arith) (omega arith) (c .before .before .before .loop .inv .3), hand-next (entered .args .orders .now) (entered .args .taken .now) (c .before .before .before .loop .i) (omega arith) (omega arith) (c .before .before .before .loop .inv .4))
+    let at-loop = c .before .before .before in
+    let entered = at-loop .before in
+    let i = at-loop .loop .i in
+    let terms = copy-next (entered .args .terms .now) (entered .args .made .now) i (omega arith) (omega arith) (at-loop .loop .inv .3) in
+    let orders = copy-next (entered .args .orders .now) (entered .args .taken .now) i (omega arith) (omega arith) (at-loop .loop .inv .4) in
+    (omega arith, search needs, search needs, terms, orders)
 
 same-length : tie.Need-same-length Inv-loop μ-loop
 same-length c = search needs
@@ -65,9 +70,12 @@ same-length-2 c = search needs
 
 returns : tie.Need-returns Inv-loop μ-loop
 returns c =
-    let entered = c .before .before in
-    let all : c .before .loop .i ≡ entered .args .last = omega arith in
-    (c .before .loop .inv .3 ∙ ap (λ k. over (entered .args .terms .now) 0 (take k (entered .args .made .now))) all, c .before .loop .inv .4 ∙ ap (λ k. over (entered .args .orders .now) 0 (take k (entered .args .taken .now))) all)
+    let at-loop = c .before in
+    let entered = at-loop .before in
+    let all : at-loop .loop .i ≡ entered .args .last = omega arith in
+    let terms = at-loop .loop .inv .3 ∙ ap (λ k. over (entered .args .terms .now) 0 (take k (entered .args .made .now))) all in
+    let orders = at-loop .loop .inv .4 ∙ ap (λ k. over (entered .args .orders .now) 0 (take k (entered .args .taken .now))) all in
+    (terms, orders)
 
 pub hand-over-spec : {M : Type 1} → statement M
 hand-over-spec =

@@ -1,6 +1,5 @@
 -- No record: the fresh one of no box.
 use borrow.Author.Needs.{needs}
-use mathlib.Core.Path.{_≡_, refl, sym, ap, _∙_}
 use Rattle.opening.proofs.whole.refused.Statement.{statement}
 use Rattle.opening.proofs.whole.refused.Tie as tie
 

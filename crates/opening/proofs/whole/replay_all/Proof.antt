@@ -1,29 +1,24 @@
--- What was replayed and what is left make the whole opening (`Stands`).
+-- What was replayed and what is left make the whole opening (`Reached`); each turn takes a line.
 use borrow.Author.Needs.{needs}
 use native.Mathlib.Omega.{arith}
-use mathlib.Core.Path.{_≡_, refl, sym, ap, _∙_}
-use Prim.Native.Nat.{ℕ, _-_, _+_, _≤_}
-use lib.ListN.{length, take, drop, length-drop}
-use Rattle.frames.specs.Limits.{log-limit}
+use mathlib.Core.Path.{_≡_, sym, _∙_}
+use Prim.Native.Nat.{_-_}
+use lib.ListN.{length}
 use Rattle.record.specs.Calls.{state-of}
-use Rattle.opening.specs.Calls.{first-line}
-use Rattle.opening.specs.CodeLaws.{first-most}
-use Rattle.opening.specs.ReplayCode.{Goes, line-breaks, line-goes, Stands, stands-first, stands-done, stands-broken, stands-next}
+use Rattle.opening.specs.ReplayCode.{Reached, reached-first, end-inside, reached-end, reached-broken, reached-next}
 use Rattle.opening.proofs.whole.replay_all.Statement.{statement}
 use Rattle.opening.proofs.whole.replay_all.Tie as tie
 
 abbrev Inv-loop : tie.InvT-loop
-Inv-loop bytes first terms₀ orders₀ node₀ at₀ number₀ terms orders node at number =
-    (length terms ≡ log-limit) × (length orders ≡ log-limit) × (at ≤ length bytes) × (number ≤ at) × (node .last ≤ log-limit)
-    × Stands bytes first (state-of node₀ terms₀ orders₀) node terms orders at number
+Inv-loop bytes first terms₀ orders₀ state₀ at₀ number₀ terms orders state at number = Reached bytes first (state-of state₀ terms₀ orders₀) state terms orders at number
 
 abbrev μ-loop : tie.MeasureT-loop
-μ-loop bytes first terms₀ orders₀ node₀ at₀ number₀ terms orders node at number = length bytes - at
+μ-loop bytes first terms₀ orders₀ state₀ at₀ number₀ terms orders state at number = length bytes - at
 
 loop-holds : tie.Need-loop-holds Inv-loop μ-loop
 loop-holds c =
     let entered = c .before .before .before in
-    (entered .pre .0, entered .pre .1 .0, entered .pre .1 .1 .0, entered .pre .1 .1 .1 .0, entered .pre .1 .1 .1 .1, stands-first _ _ _ _ _ _ refl)
+    reached-first (entered .pre)
 
 line-end-requires : tie.Need-line-end-requires Inv-loop μ-loop
 line-end-requires c κs = search needs
@@ -36,53 +31,72 @@ same-length-2 c = search needs
 
 returns : tie.Need-returns Inv-loop μ-loop
 returns c =
-    let entered = c .before .before .before .before .before .before in
-    stands-done (entered .args .bytes .now) (entered .args .first) (state-of (entered .args .start) (entered .args .terms .now) (entered .args .orders .now)) (c .before .before .loop .node) (c .before .before .loop .terms) (c .before .before .loop .orders) (c .before .before .loop .at) (c .before .before .loop .number) (c .before .before .loop .inv .5) (c .before .before .loop .inv .2) (omega (arith, c .before .line-end .ensures, c .if1 .taken)) (c .before .before .loop .inv .4)
+    let at-line-end = c .before in
+    let at-loop = at-line-end .before in
+    reached-end (at-loop .loop .inv) (at-line-end .line-end .ensures) (c .if1 .taken)
 
-sub-replay-on : tie.Need-sub-replay-on Inv-loop μ-loop
-sub-replay-on c = search needs
+sub-replay : tie.Need-sub-replay Inv-loop μ-loop
+sub-replay c = search needs
 
-part-replay-on-start : tie.Need-part-replay-on-start Inv-loop μ-loop
-part-replay-on-start c = search needs
+part-replay-start : tie.Need-part-replay-start Inv-loop μ-loop
+part-replay-start c = search needs
 
-part-replay-on-end : tie.Need-part-replay-on-end Inv-loop μ-loop
-part-replay-on-end c =
-    let entered = c .before .before .before .before .before .before in
-    omega (arith, c .before .line-end .ensures, first-most (drop (c .before .before .loop .at) (entered .args .bytes .now)), length-drop (c .before .before .loop .at) (entered .args .bytes .now), (c .before .before .loop .inv .2))
+part-replay-end : tie.Need-part-replay-end Inv-loop μ-loop
+part-replay-end c =
+    let at-line-end = c .before in
+    let at-loop = at-line-end .before in
+    end-inside (at-loop .loop .inv) (at-line-end .line-end .ensures)
 
-replay-on-requires : tie.Need-replay-on-requires Inv-loop μ-loop
-replay-on-requires c κs = search needs
+replay-requires : tie.Need-replay-requires Inv-loop μ-loop
+replay-requires c κs = search needs
 
 refused-requires : tie.Need-refused-requires Inv-loop μ-loop
 refused-requires c κs = search needs
 
 same-length-3 : tie.Need-same-length-3 Inv-loop μ-loop
-same-length-3 c = c .before .before .before .before .before .before .before .replay-on .kept .1 .1 .0 ∙ (c .before .before .before .before .before .before .before .before .before .before .before .before .before .loop .inv .0) ∙ sym (c .before .before .before .before .before .before .before .before .before .before .before .before .before .before .before .before .before .pre .0)
+same-length-3 c =
+    let at-replay = c .before .before .before .before .before .before .before in
+    let at-loop = at-replay .before .before .before .before .before .before in
+    let entered = at-loop .before .before .before .before in
+    at-replay .replay .kept .1 .1 .0 ∙ at-loop .loop .inv .lent .terms-long ∙ sym (entered .pre .lent .terms-long)
 
 same-length-4 : tie.Need-same-length-4 Inv-loop μ-loop
-same-length-4 c = c .before .before .before .before .before .before .before .replay-on .kept .1 .1 .1 .0 ∙ (c .before .before .before .before .before .before .before .before .before .before .before .before .before .loop .inv .1) ∙ sym (c .before .before .before .before .before .before .before .before .before .before .before .before .before .before .before .before .before .pre .1 .0)
+same-length-4 c =
+    let at-replay = c .before .before .before .before .before .before .before in
+    let at-loop = at-replay .before .before .before .before .before .before in
+    let entered = at-loop .before .before .before .before in
+    at-replay .replay .kept .1 .1 .1 .0 ∙ at-loop .loop .inv .lent .orders-long ∙ sym (entered .pre .lent .orders-long)
 
 returns-2 : tie.Need-returns-2 Inv-loop μ-loop
 returns-2 c =
-    let entered = c .before .before .before .before .before .before .before .before .before .before .before .before .before .before .before .before .before in
-    let more : c .before .before .before .before .before .before .before .before .before .before .before .before .line-end .result - c .before .before .before .before .before .before .before .before .before .before .before .before .before .loop .at ≡ first-line (drop (c .before .before .before .before .before .before .before .before .before .before .before .before .before .loop .at) (entered .args .bytes .now)) = omega (arith, c .before .before .before .before .before .before .before .before .before .before .before .before .line-end .ensures) in
-    rw (c .refused .ensures) (stands-broken (entered .args .bytes .now) (entered .args .first) (state-of (entered .args .start) (entered .args .terms .now) (entered .args .orders .now)) (c .before .before .before .before .before .before .before .before .before .before .before .before .before .loop .node) (c .before .before .before .before .before .before .before .before .before .before .before .before .before .loop .terms) (c .before .before .before .before .before .before .before .before .before .before .before .before .before .loop .orders) (c .before .before .before .before .before .before .before .before .before .before .before .before .before .loop .at) (c .before .before .before .before .before .before .before .before .before .before .before .before .before .loop .number) (c .before .before .before .before .before .before .before .before .before .before .before .before .before .loop .inv .5) (c .before .before .before .before .before .before .before .before .before .before .before .before .before .loop .inv .2) (λ e. c .before .before .before .before .before .before .before .before .before .before .before .if1 .left (omega (arith, c .before .before .before .before .before .before .before .before .before .before .before .before .line-end .ensures, e))) _ _ (line-breaks (c .before .before .before .before .before .before .before .before .before .before .before .before .before .loop .node) (take (first-line (drop (c .before .before .before .before .before .before .before .before .before .before .before .before .before .loop .at) (entered .args .bytes .now))) (drop (c .before .before .before .before .before .before .before .before .before .before .before .before .before .loop .at) (entered .args .bytes .now))) (c .before .before .before .before .before .before .before .before .before .before .before .before .before .loop .terms) (c .before .before .before .before .before .before .before .before .before .before .before .before .before .loop .orders) (c .before .before .before .before .before .before .before .before .before .before .before .before .before .loop .inv .0) (c .before .before .before .before .before .before .before .before .before .before .before .before .before .loop .inv .1) (c .before .before .before .before .before .before .before .replay-on .result) (c .before .before .before .before .before .before .before .replay-on .last .1 .1 .0) (c .before .before .before .before .before .before .before .replay-on .last .1 .1 .1 .0) (rw more at (c .before .before .before .before .before .before .before .replay-on .ensures)) (λ e. c .before .if2 .taken e)))
+    let at-if2 = c .before in
+    let at-replay = at-if2 .before .before .before .before .before .before in
+    let at-if1 = at-replay .before .before .before .before in
+    let at-line-end = at-if1 .before in
+    let at-loop = at-line-end .before in
+    reached-broken (at-loop .loop .inv) (at-line-end .line-end .ensures) (at-if1 .if1 .left) (at-replay .replay .ensures) (at-if2 .if2 .taken) (c .refused .ensures) _ _
 
 add-number : tie.Need-add-number Inv-loop μ-loop
 add-number c = search needs
 
 loop-less : tie.Need-loop-less Inv-loop μ-loop
 loop-less c =
-    let entered = c .before .before .before .before .before .before .before .before .before .before .before .before .before .before .before .before .before in
-    omega (arith, c .before .before .before .before .before .before .before .before .before .before .before .before .line-end .ensures, c .before .before .before .before .before .before .before .before .before .before .before .if1 .left, first-most (drop (c .before .before .before .before .before .before .before .before .before .before .before .before .before .loop .at) (entered .args .bytes .now)), length-drop (c .before .before .before .before .before .before .before .before .before .before .before .before .before .loop .at) (entered .args .bytes .now), (c .before .before .before .before .before .before .before .before .before .before .before .before .before .loop .inv .2))
+    let at-if1 = c .before .before .before .before .before .before .before .before .before .before .before in
+    let at-line-end = at-if1 .before in
+    let at-loop = at-line-end .before in
+    omega (arith, end-inside (at-loop .loop .inv) (at-line-end .line-end .ensures), at-line-end .line-end .ensures, at-if1 .if1 .left)
 
 loop-again : tie.Need-loop-again Inv-loop μ-loop
 loop-again c =
-    let entered = c .before .before .before .before .before .before .before .before .before .before .before .before .before .before .before .before .before in
-    let more : c .before .before .before .before .before .before .before .before .before .before .before .before .line-end .result - c .before .before .before .before .before .before .before .before .before .before .before .before .before .loop .at ≡ first-line (drop (c .before .before .before .before .before .before .before .before .before .before .before .before .before .loop .at) (entered .args .bytes .now)) = omega (arith, c .before .before .before .before .before .before .before .before .before .before .before .before .line-end .ensures) in
-    let there : c .before .before .before .before .before .before .before .before .before .before .before .before .line-end .result ≡ c .before .before .before .before .before .before .before .before .before .before .before .before .before .loop .at + first-line (drop (c .before .before .before .before .before .before .before .before .before .before .before .before .before .loop .at) (entered .args .bytes .now)) = c .before .before .before .before .before .before .before .before .before .before .before .before .line-end .ensures in
-    let goes = (line-goes (c .before .before .before .before .before .before .before .before .before .before .before .before .before .loop .node) (take (first-line (drop (c .before .before .before .before .before .before .before .before .before .before .before .before .before .loop .at) (entered .args .bytes .now))) (drop (c .before .before .before .before .before .before .before .before .before .before .before .before .before .loop .at) (entered .args .bytes .now))) (c .before .before .before .before .before .before .before .before .before .before .before .before .before .loop .terms) (c .before .before .before .before .before .before .before .before .before .before .before .before .before .loop .orders) (c .before .before .before .before .before .before .before .before .before .before .before .before .before .loop .inv .0) (c .before .before .before .before .before .before .before .before .before .before .before .before .before .loop .inv .1) (c .before .before .before .before .before .before .before .replay-on .result) (c .before .before .before .before .before .before .before .replay-on .last .1 .1 .0) (c .before .before .before .before .before .before .before .replay-on .last .1 .1 .1 .0) (rw more at (c .before .before .before .before .before .before .before .replay-on .ensures)) (c .before .if2 .left)) in
-    (c .before .before .before .before .before .before .before .replay-on .kept .1 .1 .0 ∙ (c .before .before .before .before .before .before .before .before .before .before .before .before .before .loop .inv .0), c .before .before .before .before .before .before .before .replay-on .kept .1 .1 .1 .0 ∙ (c .before .before .before .before .before .before .before .before .before .before .before .before .before .loop .inv .1), omega (arith, c .before .before .before .before .before .before .before .before .before .before .before .before .line-end .ensures, first-most (drop (c .before .before .before .before .before .before .before .before .before .before .before .before .before .loop .at) (entered .args .bytes .now)), length-drop (c .before .before .before .before .before .before .before .before .before .before .before .before .before .loop .at) (entered .args .bytes .now), (c .before .before .before .before .before .before .before .before .before .before .before .before .before .loop .inv .2)), omega (arith, c .before .before .before .before .before .before .before .before .before .before .before .before .line-end .ensures, c .before .before .before .before .before .before .before .before .before .before .before .if1 .left, (c .before .before .before .before .before .before .before .before .before .before .before .before .before .loop .inv .3)), goes .room, rw there (stands-next (entered .args .bytes .now) (entered .args .first) (state-of (entered .args .start) (entered .args .terms .now) (entered .args .orders .now)) (c .before .before .before .before .before .before .before .before .before .before .before .before .before .loop .node) (c .before .before .before .before .before .before .before .before .before .before .before .before .before .loop .terms) (c .before .before .before .before .before .before .before .before .before .before .before .before .before .loop .orders) (c .before .before .before .before .before .before .before .before .before .before .before .before .before .loop .at) (c .before .before .before .before .before .before .before .before .before .before .before .before .before .loop .number) (c .before .before .before .before .before .before .before .before .before .before .before .before .before .loop .inv .5) (c .before .before .before .before .before .before .before .before .before .before .before .before .before .loop .inv .2) (λ e. c .before .before .before .before .before .before .before .before .before .before .before .if1 .left (omega (arith, c .before .before .before .before .before .before .before .before .before .before .before .before .line-end .ensures, e))) (c .before .before .before .before .before .before .before .replay-on .result) (c .before .before .before .before .before .before .before .replay-on .last .1 .1 .0) (c .before .before .before .before .before .before .before .replay-on .last .1 .1 .1 .0) goes))
+    let at-if2 = c .before in
+    let at-replay = at-if2 .before .before .before .before .before .before in
+    let at-if1 = at-replay .before .before .before .before in
+    let at-line-end = at-if1 .before in
+    let at-loop = at-line-end .before in
+    let terms-long = at-replay .replay .kept .1 .1 .0 ∙ at-loop .loop .inv .lent .terms-long in
+    let orders-long = at-replay .replay .kept .1 .1 .1 .0 ∙ at-loop .loop .inv .lent .orders-long in
+    reached-next (at-loop .loop .inv) (at-line-end .line-end .ensures) (at-if1 .if1 .left) (at-replay .replay .ensures) (at-if2 .if2 .left)
+    (record { terms-long = terms-long; orders-long = orders-long })
 
 pub replay-all-spec : {M : Type 1} → statement M
 replay-all-spec =
@@ -95,10 +109,10 @@ replay-all-spec =
     same-length
     same-length-2
     returns
-    sub-replay-on
-    part-replay-on-start
-    part-replay-on-end
-    replay-on-requires
+    sub-replay
+    part-replay-start
+    part-replay-end
+    replay-requires
     refused-requires
     same-length-3
     same-length-4
