@@ -9,10 +9,10 @@ use Rattle.jargulmet.proofs.answer_all.Statement.{statement}
 use Rattle.jargulmet.proofs.answer_all.Tie as tie
 
 abbrev Inv-loop : tie.InvT-loop
-Inv-loop bytes terms₀ orders₀ output₀ node₀ at₀ terms orders output node at = (at ≤ length bytes) × (length output ≡ length output₀)
+Inv-loop bytes terms₀ orders₀ output₀ state₀ at₀ terms orders output state at = (at ≤ length bytes) × (length output ≡ length output₀)
 
 abbrev μ-loop : tie.MeasureT-loop
-μ-loop bytes terms₀ orders₀ output₀ node₀ at₀ terms orders output node at = length bytes - at
+μ-loop bytes terms₀ orders₀ output₀ state₀ at₀ terms orders output state at = length bytes - at
 
 loop-holds : tie.Need-loop-holds Inv-loop μ-loop
 loop-holds c = search needs

@@ -8,11 +8,11 @@ use Rattle.jargulmet.proofs.later_lines.Statement.{statement}
 use Rattle.jargulmet.proofs.later_lines.Tie as tie
 
 abbrev Inv-loop : tie.InvT-loop
-Inv-loop input₀ from filled terms₀ orders₀ output₀ node₀ at₀ held₀ turns₀ input terms orders output node at held turns =
+Inv-loop input₀ from filled terms₀ orders₀ output₀ state₀ at₀ held₀ turns₀ input terms orders output state at held turns =
     (at ≤ held) × (held ≤ length input) × (length input ≡ length input₀) × (length output ≡ length output₀)
 
 abbrev μ-loop : tie.MeasureT-loop
-μ-loop input₀ from filled terms₀ orders₀ output₀ node₀ at₀ held₀ turns₀ input terms orders output node at held turns = turns
+μ-loop input₀ from filled terms₀ orders₀ output₀ state₀ at₀ held₀ turns₀ input terms orders output state at held turns = turns
 
 loop-holds : tie.Need-loop-holds Inv-loop μ-loop
 loop-holds c = search needs
