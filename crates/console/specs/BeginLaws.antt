@@ -24,7 +24,7 @@ use Rattle.record.specs.WrittenLaws.{head-long}
 use Rattle.console.specs.declared.Begun.{Begun}
 use Rattle.console.specs.Session.{refusal-line, is-start}
 use Rattle.console.specs.TextLaws.{refusal-most}
-use Rattle.console.specs.Calls.{longest, starts, Starts, Beginning, none, beginning, Begins}
+use Rattle.console.specs.Calls.{longest, starts, Starts, Beginning, none, beginning, Begins, Puts}
 
 -- a head's form has eight digits
 pub head-digits : (line : List ℕ) → head-shaped line ≡ true → run line ≡ 8
@@ -99,17 +99,20 @@ starts-by line room h = go (head-shaped line) refl
 
 module _ (line room : List ℕ) (h : longest ≤ length room) {st : Started} {room' : List ℕ} (e : Starts line room st room') where
   -- a start that is refused: 12 is printed
-  pub start-bad : (st .refusal ≡ 0 → ⊥) → {room'' : List ℕ} {bytes : ℕ} → room'' ≡ over room' 0 (refusal-line 12) → bytes ≡ length (refusal-line 12)
+  pub start-bad : (st .refusal ≡ 0 → ⊥) → {room'' : List ℕ} {bytes : ℕ} → Puts room' 0 (refusal-line 12) bytes room''
       → Begins line room (record { fits = true; started = false; state = st .state; bytes = bytes }) room''
   unfolding beginning
-  start-bad z {room''} {bytes} r l = go (is-start line) refl (e ∙ starts-by line room h)
+  start-bad z {room''} {bytes} r = go (is-start line) refl (e ∙ starts-by line room h)
     where
+      long : bytes ≡ length (refusal-line 12)
+      long = omega (arith, r .behind)
+
       go : (b : Bool) → is-start line ≡ b → _≡_ {A = calls.Begun} (record { answer = st; journal = room' }) (started-by line room)
           → Begins line room (record { fits = true; started = false; state = st .state; bytes = bytes }) room''
       go true p q = absurd (z (ap (λ (x : calls.Begun). x .answer .refusal) (rw p at q)))
       go false p q =
           let q' = rw p at q in
-          rw (le-leb longest (length room) h, p, r, l, ap (λ (x : calls.Begun). x .answer) q', ap (λ (x : calls.Begun). x .journal) q')
+          rw (le-leb longest (length room) h, p, r .holds, long, ap (λ (x : calls.Begun). x .answer) q', ap (λ (x : calls.Begun). x .journal) q')
 
   -- one that is done: the fresh box and its head
   pub start-done : st .refusal ≡ 0 → Begins line room (record { fits = true; started = true; state = st .state; bytes = st .bytes }) room'

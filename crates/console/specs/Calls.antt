@@ -145,13 +145,25 @@ abbrev pub Tells : Record → (bytes terms orders room : List ℕ) → Taken →
 Tells b bytes terms orders room answer terms' orders' room' =
     _≡_ {A = Telling} (record { answer = answer; terms = terms'; orders = orders'; room = room' }) (telling b bytes terms orders room)
 
+-- A text is put at a place of a room: the place behind it, and the room that holds it.
+pub record Puts (room : List ℕ) (at : ℕ) (text : List ℕ) (end : ℕ) (room' : List ℕ) : Type 0 where
+  pub behind : end ≡ at + length text
+  pub holds : room' ≡ over room at text
+
 -- What the inside calls require: the log is lent whole, and it is known whether the record is good.
 pub record Known (known : Bool) (b : Record) (terms orders : List ℕ) : Type 0 where
   pub terms-long : length terms ≡ log-limit
   pub orders-long : length orders ≡ log-limit
   pub is : known ≡ good (state-of b terms orders)
 
--- Behind that, room for any answer, and aside for any messages.
+-- Besides, room for any answer, and aside for any messages.
 pub record Roomy (room messages : List ℕ) : Type 0 where
   pub answers : longest ≤ length room
   pub aside : longest-messages ≤ length messages
+
+-- What a record's text requires: the log is lent whole, the record's part of it fits, and the room holds any record: four numbers and 256 entries.
+pub record Showable (b : Record) (terms orders room : List ℕ) : Type 0 where
+  pub terms-long : length terms ≡ log-limit
+  pub orders-long : length orders ≡ log-limit
+  pub fits : b .last ≤ log-limit
+  pub wide : 6484 ≤ length room

@@ -23,7 +23,7 @@ use Rattle.record.specs.declared.Step.{Step}
 use Rattle.record.specs.SizeLaws.{over-next}
 use Rattle.record.specs.Calls.{state-of, record-of, Called, untouched, fit, written, run, Runs, Ready}
 use Rattle.console.specs.Session.{event-of, outcome-of, refusal-line, printed}
-use Rattle.console.specs.Calls.{longest, Saying, said, saying, Says, Known, Roomy}
+use Rattle.console.specs.Calls.{longest, Saying, said, saying, Says, Puts, Known, Roomy}
 use Rattle.console.specs.TextLaws.{taken-back}
 use Rattle.console.specs.LineLaws.{outcome-step, not-good}
 use Rattle.console.specs.GoodLaws.{known-stays}
@@ -137,19 +137,21 @@ module _ {known : Bool} (line : List ℕ) {b : Record} {terms orders room aside 
           absurd (omega (arith, number, z, at-least-one n (rw p at (outcome-numbered line s))))
 
   -- refused: the line of the refusal, and all else as it was
-  pub said-refused : (c .answer .refusal ≡ 0 → ⊥) → {room' : List ℕ} {bytes : ℕ} → room' ≡ over (c .journal) 0 (refusal-line (c .answer .refusal))
-      → bytes ≡ length (refusal-line (c .answer .refusal))
+  pub said-refused : (c .answer .refusal ≡ 0 → ⊥) → {room' : List ℕ} {bytes : ℕ} → Puts (c .journal) 0 (refusal-line (c .answer .refusal)) bytes room'
       → Says b line terms orders room (record { fits = true; state = c .answer .state; bytes = bytes }) (c .terms) (c .orders) room'
       × Known known (c .answer .state) (c .terms) (c .orders)
   unfolding saying said
-  said-refused z {room'} {bytes} r l =
+  said-refused z {room'} {bytes} r =
       let said' = go (outcome-of line s) refl in
       (said', known-stays line room knows (roomy .answers) said')
     where
+      long : bytes ≡ length (refusal-line (c .answer .refusal))
+      long = omega (arith, r .behind)
+
       go : (o : Outcome) → outcome-of line s ≡ o
           → Says b line terms orders room (record { fits = true; state = c .answer .state; bytes = bytes }) (c .terms) (c .orders) room'
       go (done t ms) p = absurd (z (ap (λ (x : Called). x .answer .refusal) (done-left t ms p)))
-      go (refuse n) p = rw (r, l, refused-left n p, le-leb longest (length room) (roomy .answers), p)
+      go (refuse n) p = rw (r .holds, long, refused-left n p, le-leb longest (length room) (roomy .answers), p)
 
 -- room that is too short for any answer
 pub said-short : (line : List ℕ) {b : Record} {terms orders room : List ℕ} → length room < longest

@@ -13,28 +13,32 @@ slice-reshare-prefix-put : tie.Need-slice-reshare-prefix-put
 slice-reshare-prefix-put c =
     let at-step = c .before .before .before .before .before .before .before .before .before .before .before .before in
     let entered = at-step .before .before .before .before .before .before .before .before .before .before in
-    let sizes = step-sizes (entered .args .line .now) (entered .pre .0) (entered .pre .1) (at-step .step .ensures) in
-    omega (arith, sizes .sent, at-step .step .kept .1 .1 .1 .1 .1 .1 .0, entered .pre .1 .aside)
+    let (knows, roomy) = entered .pre in
+    let sizes = step-sizes (entered .args .line .now) knows roomy (at-step .step .ensures) in
+    omega (arith, sizes .sent, at-step .step .kept .1 .1 .1 .1 .1 .1 .0, roomy .aside)
 
 slice-aggregate-put : tie.Need-slice-aggregate-put
 slice-aggregate-put c =
     let at-step = c .before .before .before .before .before .before .before .before .before .before .before .before .before in
     let entered = at-step .before .before .before .before .before .before .before .before .before .before in
-    let sizes = step-sizes (entered .args .line .now) (entered .pre .0) (entered .pre .1) (at-step .step .ensures) in
-    simp length-take (omega (arith, sizes .sent, at-step .step .kept .1 .1 .1 .1 .1 .1 .0, entered .pre .1 .aside))
+    let (knows, roomy) = entered .pre in
+    let sizes = step-sizes (entered .args .line .now) knows roomy (at-step .step .ensures) in
+    simp length-take (omega (arith, sizes .sent, at-step .step .kept .1 .1 .1 .1 .1 .1 .0, roomy .aside))
 
 put-requires : tie.Need-put-requires
 put-requires c κs =
     let at-step = c .before .before .before .before .before .before .before .before .before .before .before .before .before in
     let entered = at-step .before .before .before .before .before .before .before .before .before .before in
-    let sizes = step-sizes (entered .args .line .now) (entered .pre .0) (entered .pre .1) (at-step .step .ensures) in
-    simp length-take (omega (arith, sizes .line, sizes .sent, at-step .step .kept .1 .1 .1 .1 .1 .0, entered .pre .1 .answers))
+    let (knows, roomy) = entered .pre in
+    let sizes = step-sizes (entered .args .line .now) knows roomy (at-step .step .ensures) in
+    simp length-take (omega (arith, sizes .line, sizes .sent, at-step .step .kept .1 .1 .1 .1 .1 .0, roomy .answers))
 
 add-t25 : tie.Need-add-t25
 add-t25 c =
     let at-step = c .before .before .before .before .before .before .before .before .before .before .before .before .before .before .before .before .before in
     let entered = at-step .before .before .before .before .before .before .before .before .before .before in
-    let sizes = step-sizes (entered .args .line .now) (entered .pre .0) (entered .pre .1) (at-step .step .ensures) in
+    let (knows, roomy) = entered .pre in
+    let sizes = step-sizes (entered .args .line .now) knows roomy (at-step .step .ensures) in
     omega (arith, sizes .line, sizes .sent)
 
 same-length : tie.Need-same-length
@@ -55,13 +59,15 @@ returns c =
     let at-if1 = at-put .before .before .before in
     let at-step = at-if1 .before .before .before .before .before .before .before .before .before .before .before in
     let entered = at-step .before .before .before .before .before .before .before .before .before .before in
-    said-done (entered .args .line .now) (entered .pre .0) (entered .pre .1) (at-step .step .ensures) (at-if1 .if1 .taken) (at-put .put .ensures)
+    let (knows, roomy) = entered .pre in
+    said-done (entered .args .line .now) knows roomy (at-step .step .ensures) (at-if1 .if1 .taken) (at-put .put .ensures)
 
 put-refusal-requires : tie.Need-put-refusal-requires
 put-refusal-requires c κs =
     let at-step = c .before .before .before .before .before .before .before .before .before .before .before .before in
     let entered = at-step .before .before .before .before .before .before .before .before .before .before in
-    omega (arith, at-step .step .kept .1 .1 .1 .1 .1 .0, entered .pre .1 .answers)
+    let roomy = entered .pre .1 in
+    omega (arith, at-step .step .kept .1 .1 .1 .1 .1 .0, roomy .answers)
 
 same-length-5 : tie.Need-same-length-5
 same-length-5 c = search needs
@@ -81,7 +87,8 @@ returns-2 c =
     let at-if1 = at-put-refusal .before .before in
     let at-step = at-if1 .before .before .before .before .before .before .before .before .before .before .before in
     let entered = at-step .before .before .before .before .before .before .before .before .before .before in
-    said-refused (entered .args .line .now) (entered .pre .0) (entered .pre .1) (at-step .step .ensures) (at-if1 .if1 .left) (at-put-refusal .put-refusal .ensures .1) (at-put-refusal .put-refusal .ensures .0)
+    let (knows, roomy) = entered .pre in
+    said-refused (entered .args .line .now) knows roomy (at-step .step .ensures) (at-if1 .if1 .left) (at-put-refusal .put-refusal .ensures)
 
 pub answer-known-spec : {M : Type 1} → statement M
 answer-known-spec =

@@ -37,8 +37,7 @@ returns-2 c =
     let at-if1 = at-start2 .before .before in
     let entered = at-if1 .before .before .before in
     let a = entered .args in
-    let told = at-put-refusal .put-refusal .ensures in
-    let whole = start-bad (a .line .now) (a .room .now) (omega (arith, at-if1 .if1 .left)) (at-start2 .start2 .ensures) (at-if2 .if2 .taken) (told .1) (told .0) in
+    let whole = start-bad (a .line .now) (a .room .now) (omega (arith, at-if1 .if1 .left)) (at-start2 .start2 .ensures) (at-if2 .if2 .taken) (at-put-refusal .put-refusal .ensures) in
     (whole, begin-within (a .line .now) (a .room .now) whole)
 
 same-length-3 : tie.Need-same-length-3

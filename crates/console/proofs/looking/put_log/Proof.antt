@@ -2,7 +2,7 @@
 use borrow.Author.Needs.{needs}
 use mathlib.Core.Path.{_≡_, refl, ap, _∙_}
 use native.Mathlib.Omega.{arith}
-use Prim.Native.Nat.{ℕ, _-_, _≤_}
+use Prim.Native.Nat.{ℕ, _+_, _-_, _*_, _≤_}
 use lib.ListN.{length, length-set}
 use Rattle.digits.specs.Room.{over}
 use Rattle.digits.specs.RoomLaws.{over-nothing}
@@ -69,7 +69,10 @@ loop-again c =
     let put-entry = c .before .before .put-entry in
     let loop = c .before .before .before .before .before .before .before .loop in
     let entered = c .before .before .before .before .before .before .before .before .before .before .before in
-    (omega arith, simp length-set (omega (arith, put-entry .kept .0, loop .inv .1)), logged-next (entered .args .room .now) (entered .args .at) (entered .args .terms .now) (entered .args .orders .now) (loop .i) (omega (arith, entered .pre .1 .1)) (loop .inv .2) (put-entry .ensures))
+    let a = entered .args in
+    let wide : a .at + 25 * a .last ≤ length (a .room .now) = entered .pre .1 .1 in
+    let text = logged-next (a .room .now) (a .at) (a .terms .now) (a .orders .now) (loop .i) (omega (arith, wide)) (loop .inv .2) (put-entry .ensures) in
+    (omega arith, simp length-set (omega (arith, put-entry .kept .0, loop .inv .1)), text)
 
 same-length : tie.Need-same-length Inv-loop μ-loop
 same-length c = search needs
@@ -79,8 +82,9 @@ returns c =
     let loop = c .before .loop in
     let entered = c .before .before .before .before .before in
     let loop-test = c .loop-test in
-    let all : loop .i ≡ entered .args .last = omega (arith, loop-test .left) in
-    loop .inv .2 ∙ ap (λ (n : ℕ). over (entered .args .room .now) (entered .args .at) (log-shown (entries-of (entered .args .terms .now) (entered .args .orders .now) 0 n))) all
+    let a = entered .args in
+    let all : loop .i ≡ a .last = omega (arith, loop-test .left) in
+    loop .inv .2 ∙ ap (λ (n : ℕ). over (a .room .now) (a .at) (log-shown (entries-of (a .terms .now) (a .orders .now) 0 n))) all
 
 pub put-log-spec : {M : Type 1} → statement M
 put-log-spec =
