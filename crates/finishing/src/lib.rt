@@ -162,11 +162,12 @@ pub fn finish_adding(
         (now (terms .entry)) (now (orders .entry)) (now (journal .entry)) (now (messages .entry)) r
         (now (terms .exit)) (now (orders .exit)) (now (journal .exit)) (now (messages .exit)) ⌝ }
 {
-    if d.refusal != 0 {
-        return refused(n, d.refusal);
-    }
     let next = d.next;
     let send = d.send;
+    let refusal = d.refusal;
+    if refusal != 0 {
+        return refused(n, refusal);
+    }
     let line = line_size(n, d);
     let sent = sent_size(send, next);
     if !fits(line, journal.len(), sent, messages.len()) {

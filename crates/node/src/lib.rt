@@ -44,11 +44,11 @@ fn boxed(done: Step) -> Answer
 
 impl Node {
     // 01's limits: boxes 1 to 7, a log of 256 entries, 4 entries a frame.
-    pub const BOXES: usize = 7;
+    pub const BOXES: usize = Record::BOXES;
 
-    pub const LOG: usize = 256;
+    pub const LOG: usize = Record::LOG;
 
-    pub const ENTRIES: usize = 4;
+    pub const ENTRIES: usize = Record::ENTRIES;
 
     // Starts a box: 12 exactly when its number or mask is bad, 5 exactly when the room is too short for the head.
     pub fn start(me: u8, mask: u8, journal: &mut [u8]) -> Started

@@ -26,7 +26,8 @@ use Rattle.raft.specs.CommitLaws.{by-test}
 use Rattle.raft.specs.RecordLaws.{Good, good-facts, member-facts}
 use Rattle.raft.specs.SendLaws.{start-there, append-obeys, All, Obey, settled-obey}
 use Rattle.raft.specs.FitLaws.{all-take, all-drop, eight-bytes, Fits, leading-fits, settle-fits, append-sized, Sized, settled-sized}
-use Rattle.raft.specs.ReceiveLaws.{taken-by, taken-least, Ends, vote-request-ends, vote-answer-ends, append-ends, Hears, settled-heard, append-answer-ends, Sender, Arrives, receive-ends, sent-by, offer-facts, good-taken, good-following, good-granted, good-elected, good-joined, good-settled-heard}
+use Rattle.raft.specs.ReceiveLaws.{taken-by, taken-least, Ends, vote-request-ends, vote-answer-ends, append-ends, Hears, settled-heard, append-answer-ends, Sender}
+use Rattle.raft.specs.ReceiveLaws.{Arrives, receive-ends, sent-by, offer-facts, good-taken, good-following, good-granted, good-elected, good-joined, good-settled-heard}
 
 -- ---- one answer
 

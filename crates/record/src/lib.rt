@@ -1,4 +1,5 @@
 // 01's record as structs, what an event decides of it, and what a step answers. Nothing to run here: `specs/` says what they mean.
+use frames::Fields;
 
 // What a leader alone has: next and match for each box, box i's at place i-1.
 pub struct Lead {
@@ -20,12 +21,12 @@ pub struct Record {
 }
 
 impl Record {
-    // 01's limits: boxes 1 to 7, a log of 256 entries, 4 entries a frame.
-    pub const BOXES: usize = 7;
+    // 01's limits, as lengths of arrays.
+    pub const BOXES: usize = Fields::BOXES as usize;
 
-    pub const LOG: usize = 256;
+    pub const LOG: usize = Fields::LOG as usize;
 
-    pub const ENTRIES: usize = 4;
+    pub const ENTRIES: usize = Fields::ENTRIES;
 
     // The last term there is.
     pub const LAST_TERM: u32 = 4294967295;

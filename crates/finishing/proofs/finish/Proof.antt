@@ -39,7 +39,8 @@ returns-2 c =
     let at-line-size = at-sent-size .before in
     let at-if1 = at-line-size .before .before in
     let entered = at-if1 .before .before .before .before .before .before in
-    short-left (entered .pre .0) (omega (arith, at-if1 .if1 .left)) (entered .args .journal .now) (entered .args .messages .now) (c .refused2 .ensures) (at-line-size .line-size .ensures) (at-sent-size .sent-size .ensures)
+    short-left (entered .pre .0) (omega (arith, at-if1 .if1 .left)) (entered .args .journal .now) (entered .args .messages .now) (c .refused2 .ensures)
+    (at-line-size .line-size .ensures) (at-sent-size .sent-size .ensures)
     (at-fits2 .fits2 .ensures) (at-if2 .if2 .taken)
 
 put-line-requires : tie.Need-put-line-requires
@@ -60,8 +61,14 @@ put-messages-requires c κs =
     let at-if1 = at-sent-size .before .before .before in
     let entered = at-if1 .before .before .before .before .before .before in
     let (terms, orders) = log-stays (entered .pre .0) (entered .pre .1) in
-    let room = fits-both (at-fits2 .fits2 .ensures) (at-if2 .if2 .left) in
-    (entered .pre .0 .decides .aimed, (lent-sendable (entered .pre .0) (sym terms) (sym orders) (omega (arith, at-if1 .if1 .left)), omega (arith, room .1, at-sent-size .sent-size .ensures)))
+    let room = fits-both (at-fits2 .fits2 .ensures) (at-if2 .if2 .left) in (
+      entered .pre .0 .decides .aimed,
+      (
+        lent-sendable (entered .pre .0) (sym terms) (sym orders) (omega (arith, at-if1 .if1 .left)),
+        omega
+            (arith, room .1, at-sent-size .sent-size .ensures),
+      ),
+    )
 
 same-length : tie.Need-same-length
 same-length c = search needs
@@ -81,7 +88,8 @@ returns-3 c =
     let entered = at-if1 .before .before .before .before .before .before in
     let (terms, orders) = log-stays (entered .pre .0) (entered .pre .1) in
     lent-left (entered .pre .0) (sym terms) (sym orders) (omega (arith, at-if1 .if1 .left)) (entered .args .journal .now) (entered .args .messages .now) refl
-    (at-line-size .line-size .ensures) (at-sent-size .sent-size .ensures) (at-fits2 .fits2 .ensures) (at-if2 .if2 .left) (at-put-line .put-line .ensures) (at-put-messages .put-messages .ensures)
+    (at-line-size .line-size .ensures) (at-sent-size .sent-size .ensures) (at-fits2 .fits2 .ensures) (at-if2 .if2 .left) (at-put-line .put-line .ensures)
+    (at-put-messages .put-messages .ensures)
 
 pub finish-spec : {M : Type 1} → statement M
 finish-spec =

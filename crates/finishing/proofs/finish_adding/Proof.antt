@@ -18,12 +18,12 @@ returns c =
 
 line-size-requires : tie.Need-line-size-requires
 line-size-requires c κs =
-    let entered = c .before .before .before .before .before .before .before in
+    let entered = c .before .before .before .before .before .before in
     omega (arith, entered .pre .decides .sum)
 
 sent-size-requires : tie.Need-sent-size-requires
 sent-size-requires c κs =
-    let entered = c .before .before .before .before .before .before .before .before in
+    let entered = c .before .before .before .before .before .before .before in
     entered .pre .decides .aimed
 
 fits-requires : tie.Need-fits-requires
@@ -38,9 +38,10 @@ returns-2 c =
     let at-fits2 = at-if2 .before in
     let at-sent-size = at-fits2 .before in
     let at-line-size = at-sent-size .before in
-    let at-if1 = at-line-size .before .before in
+    let at-if1 = at-line-size .before in
     let entered = at-if1 .before .before .before .before .before .before in
-    short-left (entered .pre) (omega (arith, at-if1 .if1 .left)) (entered .args .journal .now) (entered .args .messages .now) (c .refused2 .ensures) (at-line-size .line-size .ensures) (at-sent-size .sent-size .ensures)
+    short-left (entered .pre) (omega (arith, at-if1 .if1 .left)) (entered .args .journal .now) (entered .args .messages .now) (c .refused2 .ensures)
+    (at-line-size .line-size .ensures) (at-sent-size .sent-size .ensures)
     (at-fits2 .fits2 .ensures) (at-if2 .if2 .taken)
 
 cast-first : tie.Need-cast-first
@@ -51,7 +52,7 @@ cast-store c = search needs
 
 sub-store : tie.Need-sub-store
 sub-store c =
-    let entered = c .before .before .before .before .before .before .before .before .before .before .before .before .before .before .before in
+    let entered = c .before .before .before .before .before .before .before .before .before .before .before .before .before .before in
     omega (arith, entered .pre .decides .there)
 
 cast-store-2 : tie.Need-cast-store-2
@@ -59,7 +60,7 @@ cast-store-2 c = search needs
 
 store-requires : tie.Need-store-requires
 store-requires c κs =
-    let entered = c .before .before .before .before .before .before .before .before .before .before .before .before .before .before .before .before in
+    let entered = c .before .before .before .before .before .before .before .before .before .before .before .before .before .before .before in
     let d = entered .pre .decides in
     (d .few, (d .part, (omega (arith, d .sum, d .part, d .there, d .room, entered .pre .terms-long), omega (arith, d .sum, d .part, d .there, d .room, entered .pre .orders-long))))
 
@@ -69,7 +70,7 @@ put-line-requires c κs =
     let at-if2 = at-store .before .before .before .before .before .before in
     let at-fits2 = at-if2 .before in
     let at-line-size = at-fits2 .before .before in
-    let entered = at-line-size .before .before .before .before .before .before .before .before in
+    let entered = at-line-size .before .before .before .before .before .before .before in
     let room = fits-both (at-fits2 .fits2 .ensures) (at-if2 .if2 .left) in
     let place : entered .args .d .kept - entered .args .d .first + entered .args .d .first ≡ entered .args .d .kept = omega (arith, entered .pre .decides .there) in (
       lent-tellable (entered .pre) (stored-at (entered .pre) _ _ _ place (at-store .store .ensures .0)) (stored-at (entered .pre) _ _ _ place (at-store .store .ensures .1)),
@@ -82,7 +83,7 @@ put-messages-requires c κs =
     let at-if2 = at-store .before .before .before .before .before .before in
     let at-fits2 = at-if2 .before in
     let at-sent-size = at-fits2 .before in
-    let at-if1 = at-sent-size .before .before .before in
+    let at-if1 = at-sent-size .before .before in
     let entered = at-if1 .before .before .before .before .before .before in
     let room = fits-both (at-fits2 .fits2 .ensures) (at-if2 .if2 .left) in
     let place : entered .args .d .kept - entered .args .d .first + entered .args .d .first ≡ entered .args .d .kept = omega (arith, entered .pre .decides .there) in
@@ -111,13 +112,14 @@ returns-3 c =
     let at-fits2 = at-if2 .before in
     let at-sent-size = at-fits2 .before in
     let at-line-size = at-sent-size .before in
-    let at-if1 = at-line-size .before .before in
+    let at-if1 = at-line-size .before in
     let entered = at-if1 .before .before .before .before .before .before in
     let place : entered .args .d .kept - entered .args .d .first + entered .args .d .first ≡ entered .args .d .kept = omega (arith, entered .pre .decides .there) in
     let terms = stored-at (entered .pre) _ _ _ place (at-store .store .ensures .0) in
     let orders = stored-at (entered .pre) _ _ _ place (at-store .store .ensures .1) in
     lent-left (entered .pre) terms orders (omega (arith, at-if1 .if1 .left)) (entered .args .journal .now) (entered .args .messages .now) refl
-    (at-line-size .line-size .ensures) (at-sent-size .sent-size .ensures) (at-fits2 .fits2 .ensures) (at-if2 .if2 .left) (at-put-line .put-line .ensures) (at-put-messages .put-messages .ensures)
+    (at-line-size .line-size .ensures) (at-sent-size .sent-size .ensures) (at-fits2 .fits2 .ensures) (at-if2 .if2 .left) (at-put-line .put-line .ensures)
+    (at-put-messages .put-messages .ensures)
 
 pub finish-adding-spec : {M : Type 1} → statement M
 finish-adding-spec =

@@ -17,7 +17,8 @@ unfolding order
 returns c =
     let at-if1 = c .before in
     let entered = at-if1 .before .before .before .before in
-    λ o offered f. rw (c .refuse .ensures) (refuse-decides (entered .args .n) offered (entered .args .terms .now) (entered .args .orders .now) 3 (ready-last (entered .pre)) (omega arith)
+    λ o offered f. rw (c .refuse .ensures) (refuse-decides (entered .args .n) offered (entered .args .terms .now) (entered .args .orders .now) 3 (ready-last (entered .pre))
+    (omega arith)
     (rw (ne-eqb _ _ (at-if1 .if1 .taken))))
 
 refuse-requires-2 : tie.Need-refuse-requires-2
@@ -29,7 +30,8 @@ returns-2 c =
     let at-if2 = c .before in
     let at-if1 = at-if2 .before in
     let entered = at-if1 .before .before .before .before in
-    λ o offered f. rw (c .refuse2 .ensures) (refuse-decides (entered .args .n) offered (entered .args .terms .now) (entered .args .orders .now) 4 (ready-last (entered .pre)) (omega arith)
+    λ o offered f. rw (c .refuse2 .ensures) (refuse-decides (entered .args .n) offered (entered .args .terms .now) (entered .args .orders .now) 4 (ready-last (entered .pre))
+    (omega arith)
     (rw (eq-eqb _ _ (at-if1 .if1 .left), length-entries-of (entered .args .terms .now) (entered .args .orders .now) 0 (entered .args .n .last), le-leb _ _ (at-if2 .if2 .taken))))
 
 ordered-requires : tie.Need-ordered-requires
@@ -41,8 +43,15 @@ returns-3 c =
     let at-if2 = c .before in
     let at-if1 = at-if2 .before in
     let entered = at-if1 .before .before .before .before in
-    λ o offered f. order-decides (entered .args .n) _ offered (entered .args .terms .now) (entered .args .orders .now) _ (omega (arith, at-if2 .if2 .left)) (c .ordered .ensures .1) f
-    (rw (c .ordered .ensures .0 o, eq-eqb _ _ (at-if1 .if1 .left), length-entries-of (entered .args .terms .now) (entered .args .orders .now) 0 (entered .args .n .last), lt-leb _ _ (at-if2 .if2 .left)))
+    λ o offered f. order-decides (entered .args .n) _ offered (entered .args .terms .now) (entered .args .orders .now) _ (omega (arith, at-if2 .if2 .left))
+    (c .ordered .ensures .1) f
+    (rw (
+      c .ordered .ensures .0 o,
+      eq-eqb _ _ (at-if1 .if1 .left),
+      length-entries-of (entered .args .terms .now) (entered .args .orders .now) 0
+          (entered .args .n .last),
+      lt-leb _ _ (at-if2 .if2 .left),
+    ))
 
 pub decide-spec : {M : Type 1} → statement M
 decide-spec =

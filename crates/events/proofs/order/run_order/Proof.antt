@@ -39,7 +39,8 @@ returns c =
     let at-one-entry = at-finish-adding .before .before .before .before .before in
     let at-decide = at-one-entry .before in
     let entered = at-decide .before .before .before .before .before .before .before in
-    at-finish-adding .finish-adding .ensures ∙ finished (takes-order (entered .args .o)) (entered .pre) (at-decide .decide .ensures (entered .args .o) _ (at-one-entry .one-entry .ensures)) (entered .args .journal .now) (entered .args .messages .now)
+    at-finish-adding .finish-adding .ensures ∙ finished (takes-order (entered .args .o)) (entered .pre)
+    (at-decide .decide .ensures (entered .args .o) _ (at-one-entry .one-entry .ensures)) (entered .args .journal .now) (entered .args .messages .now)
 
 pub run-order-spec : {M : Type 1} → statement M
 run-order-spec =

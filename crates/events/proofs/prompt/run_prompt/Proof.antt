@@ -31,7 +31,8 @@ returns c =
     let at-finish = c .before .before .before .before in
     let at-decide = at-finish .before .before .before in
     let entered = at-decide .before .before .before .before .before in
-    at-finish .finish .ensures ∙ finished is-prompted (entered .pre) (at-decide .decide .ensures .0 (entered .args .terms .now) (entered .args .orders .now)) (entered .args .journal .now) (entered .args .messages .now)
+    at-finish .finish .ensures ∙ finished is-prompted (entered .pre) (at-decide .decide .ensures .0 (entered .args .terms .now) (entered .args .orders .now))
+    (entered .args .journal .now) (entered .args .messages .now)
 
 pub run-prompt-spec : {M : Type 1} → statement M
 run-prompt-spec =

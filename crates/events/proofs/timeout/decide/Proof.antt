@@ -23,7 +23,8 @@ unfolding timeout messages-of Aimed
 returns c =
     let at-if1 = c .before in
     let entered = at-if1 .before .before .before .before in (
-      rw (c .step .ensures) (plain-decides (entered .args .n) [] (entered .args .terms .now) (entered .args .orders .now) Send.Nothing (ready-last (entered .pre)) tt (rw (eq-eqb _ _ (at-if1 .if1 .taken)))),
+      rw (c .step .ensures) (plain-decides (entered .args .n) [] (entered .args .terms .now) (entered .args .orders .now) Send.Nothing (ready-last (entered .pre)) tt
+          (rw (eq-eqb _ _ (at-if1 .if1 .taken)))),
       rw (c .step .ensures),
     )
 
@@ -81,7 +82,8 @@ returns-3 c =
     let entered = at-if1 .before .before .before .before in
     let stands = becomes-lent (at-standing .standing .ensures) (entered .args .terms .now) (entered .args .orders .now) in
     let most = sym (at-is-majority .is-majority .ensures) ∙ at-if3 .if3 .taken in (
-      rw (c .step2 .ensures) (changed-decides (entered .args .n) _ [] (entered .args .terms .now) (entered .args .orders .now) Send.Appends (at-won .won .ensures .1 ∙ at-standing .standing .ensures .last)
+      rw (c .step2 .ensures) (changed-decides (entered .args .n) _ [] (entered .args .terms .now) (entered .args .orders .now) Send.Appends
+          (at-won .won .ensures .1 ∙ at-standing .standing .ensures .last)
           (ready-last (entered .pre)) tt (rw (at-won .won .ensures .0, stands, ne-eqb _ _ (at-if1 .if1 .left), ne-eqb _ _ (at-if2 .if2 .left), ← at-bit .bit .ensures, most))),
       rw (c .step2 .ensures),
     )

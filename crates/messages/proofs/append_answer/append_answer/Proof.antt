@@ -40,7 +40,8 @@ returns-2 c =
     let s = state-of (entered .args .t) (entered .args .terms .now) (entered .args .orders .now) in
     λ offered. rw (c .refuse .ensures)
     (refuse-decides (entered .args .t) offered (entered .args .terms .now) (entered .args .orders .now) 8 (ready-last (entered .pre .ready)) (omega arith)
-    (answer-past s (entered .args .from) (entered .args .reply) (entered .args .index) (at-if1 .if1 .left) (past-log (entered .args .t) (entered .args .terms .now) (entered .args .orders .now) (entered .args .reply) (entered .args .index) _ (at-if2 .if2 .taken))))
+    (answer-past s (entered .args .from) (entered .args .reply) (entered .args .index) (at-if1 .if1 .left)
+    (past-log (entered .args .t) (entered .args .terms .now) (entered .args .orders .now) (entered .args .reply) (entered .args .index) _ (at-if2 .if2 .taken))))
 
 heard-requires : tie.Need-heard-requires
 heard-requires c κs =
@@ -49,8 +50,10 @@ heard-requires c κs =
     let known = not-past (entered .args .t) (entered .args .reply) (entered .args .index) (c .if2 .left) in (
       entered .pre .sender .box,
       (
-        heard-match (entered .args .t) (entered .args .from) (entered .args .reply) (entered .args .index) (entered .args .terms .now) (entered .args .orders .now) (entered .pre) (at-if1 .if1 .left) known,
-        heard-next (entered .args .t) (entered .args .from) (entered .args .reply) (entered .args .index) (entered .args .terms .now) (entered .args .orders .now) (entered .pre) (at-if1 .if1 .left) known,
+        heard-match (entered .args .t) (entered .args .from) (entered .args .reply) (entered .args .index) (entered .args .terms .now) (entered .args .orders .now)
+            (entered .pre) (at-if1 .if1 .left) known,
+        heard-next (entered .args .t) (entered .args .from) (entered .args .reply) (entered .args .index) (entered .args .terms .now) (entered .args .orders .now)
+            (entered .pre) (at-if1 .if1 .left) known,
       ),
     )
 
@@ -62,7 +65,8 @@ settled-requires c κs =
     let known = not-past (entered .args .t) (entered .args .reply) (entered .args .index) (at-if2 .if2 .left) in (
       omega (arith, c .heard .ensures .last, ready-last (entered .pre .ready), entered .pre .ready .terms-long),
       rw (becomes-lent (c .heard .ensures) (entered .args .terms .now) (entered .args .orders .now))
-          (heard-ranged (entered .args .t) (entered .args .from) (entered .args .reply) (entered .args .index) (entered .args .terms .now) (entered .args .orders .now) (entered .pre) (at-if1 .if1 .left) known),
+          (heard-ranged (entered .args .t) (entered .args .from) (entered .args .reply) (entered .args .index) (entered .args .terms .now) (entered .args .orders .now)
+          (entered .pre) (at-if1 .if1 .left) known),
     )
 
 sends-again-requires : tie.Need-sends-again-requires
@@ -89,9 +93,11 @@ returns-3 c =
     let known = not-past (entered .args .t) (entered .args .reply) (entered .args .index) (at-if2 .if2 .left) in
     let settles = rw (becomes-lent (at-heard .heard .ensures) terms orders) at (at-settled .settled .ensures .0) in
     λ offered. rw (c .step2 .ensures)
-    (changed-decides (entered .args .t) _ offered terms orders (Send.Append (entered .args .from)) (at-settled .settled .ensures .1 ∙ at-heard .heard .ensures .last) (ready-last (entered .pre .ready))
+    (changed-decides (entered .args .t) _ offered terms orders (Send.Append (entered .args .from)) (at-settled .settled .ensures .1 ∙ at-heard .heard .ensures .last)
+    (ready-last (entered .pre .ready))
     (heard-aimed (entered .args .t) (entered .args .from) (entered .args .reply) (entered .args .index) terms orders (entered .pre) (at-if1 .if1 .left) known _ settles)
-    (answer-again s (entered .args .from) (entered .args .reply) (entered .args .index) (at-if1 .if1 .left) (past-log (entered .args .t) terms orders (entered .args .reply) (entered .args .index) _ (at-if2 .if2 .left)) _ settles
+    (answer-again s (entered .args .from) (entered .args .reply) (entered .args .index) (at-if1 .if1 .left)
+    (past-log (entered .args .t) terms orders (entered .args .reply) (entered .args .index) _ (at-if2 .if2 .left)) _ settles
     (sym (at-sends-again .sends-again .ensures terms orders) ∙ at-if3 .if3 .taken)))
 
 step-requires-3 : tie.Need-step-requires-3
@@ -113,7 +119,8 @@ returns-4 c =
     let settles = rw (becomes-lent (at-heard .heard .ensures) terms orders) at (at-settled .settled .ensures .0) in
     λ offered. rw (c .step3 .ensures)
     (changed-decides (entered .args .t) _ offered terms orders Send.Nothing (at-settled .settled .ensures .1 ∙ at-heard .heard .ensures .last) (ready-last (entered .pre .ready)) tt
-    (answer-quiet s (entered .args .from) (entered .args .reply) (entered .args .index) (at-if1 .if1 .left) (past-log (entered .args .t) terms orders (entered .args .reply) (entered .args .index) _ (at-if2 .if2 .left)) _ settles
+    (answer-quiet s (entered .args .from) (entered .args .reply) (entered .args .index) (at-if1 .if1 .left)
+    (past-log (entered .args .t) terms orders (entered .args .reply) (entered .args .index) _ (at-if2 .if2 .left)) _ settles
     (sym (at-sends-again .sends-again .ensures terms orders) ∙ at-if3 .if3 .left)))
 
 pub append-answer-spec : {M : Type 1} → statement M

@@ -38,7 +38,8 @@ finish-adding-requires c κs =
     let at-read = at-if1 .before .before in
     let entered = at-read .before .before .before .before .before .before in
     let frame = read-frame (entered .args .bytes .now) _ (at-read .read .ensures) (at-if1 .if1 .left) in
-    sound (receives (entered .args .bytes .now)) (entered .pre) (decides-as (at-arrive .arrive .ensures) (frame .1 (state-of (entered .args .n) (entered .args .terms .now) (entered .args .orders .now))))
+    sound (receives (entered .args .bytes .now)) (entered .pre)
+    (decides-as (at-arrive .arrive .ensures) (frame .1 (state-of (entered .args .n) (entered .args .terms .now) (entered .args .orders .now))))
 
 same-length : tie.Need-same-length
 same-length c = search needs

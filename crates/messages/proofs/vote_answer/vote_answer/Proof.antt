@@ -60,7 +60,8 @@ won-requires c κs =
       ready-last (entered .pre .ready),
       (
         omega (arith, ready-last (entered .pre .ready), entered .pre .ready .terms-long),
-        rw (at-bit .bit .ensures) (wins-good (entered .args .t) (entered .args .from) (entered .args .reply) (entered .args .terms .now) (entered .args .orders .now) (entered .pre) (not-false _ (at-if1 .if1 .left))),
+        rw (at-bit .bit .ensures) (wins-good (entered .args .t) (entered .args .from) (entered .args .reply) (entered .args .terms .now) (entered .args .orders .now)
+            (entered .pre) (not-false _ (at-if1 .if1 .left))),
       ),
     )
 
@@ -79,7 +80,8 @@ returns-3 c =
     let s = state-of (entered .args .t) (entered .args .terms .now) (entered .args .orders .now) in
     let most = rw (at-bit .bit .ensures) at (sym (at-is-majority .is-majority .ensures) ∙ not-false _ (at-if2 .if2 .left)) in
     λ offered. rw (c .step3 .ensures)
-    (changed-decides (entered .args .t) _ offered (entered .args .terms .now) (entered .args .orders .now) Send.Appends (at-won .won .ensures .1) (ready-last (entered .pre .ready)) tt
+    (changed-decides (entered .args .t) _ offered (entered .args .terms .now) (entered .args .orders .now) Send.Appends (at-won .won .ensures .1)
+    (ready-last (entered .pre .ready)) tt
     (rw (at-won .won .ensures .0, at-bit .bit .ensures) (answer-wins s (entered .args .from) (entered .args .reply) (not-false _ (at-if1 .if1 .left)) most)))
 
 pub vote-answer-spec : {M : Type 1} → statement M

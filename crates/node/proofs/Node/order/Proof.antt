@@ -24,14 +24,16 @@ returns c =
     let terms = entered .args .terms .now in
     let orders = entered .args .orders .now in
     rw (c .boxed .ensures, at-refused .refused .ensures)
-    (looked-bad (entered .args .self .state) terms orders (at-is-good .is-good .ensures orders) (at-if1 .if1 .taken) (takes-order (entered .args .order)) (entered .args .journal .now) (entered .args .messages .now))
+    (looked-bad (entered .args .self .state) terms orders (at-is-good .is-good .ensures orders) (at-if1 .if1 .taken) (takes-order (entered .args .order))
+    (entered .args .journal .now) (entered .args .messages .now))
 
 run-order-requires : tie.Need-run-order-requires
 run-order-requires c κs =
     let at-if1 = c .before .before .before .before in
     let at-is-good = at-if1 .before in
     let entered = at-is-good .before .before .before .before .before .before in
-    looked-ready (entered .args .self .state) (entered .args .terms .now) (entered .args .orders .now) (at-is-good .is-good .ensures (entered .args .orders .now)) (at-if1 .if1 .left)
+    looked-ready (entered .args .self .state) (entered .args .terms .now) (entered .args .orders .now) (at-is-good .is-good .ensures (entered .args .orders .now))
+    (at-if1 .if1 .left)
     (search needs) (search needs)
 
 boxed-requires-2 : tie.Need-boxed-requires-2
@@ -53,7 +55,8 @@ returns-2 c =
     let orders = entered .args .orders .now in
     rw (c .boxed2 .ensures)
     (at-run-order .run-order .ensures
-    ∙ looked-good (entered .args .self .state) terms orders (at-is-good .is-good .ensures orders) (at-if1 .if1 .left) (takes-order (entered .args .order)) (entered .args .journal .now) (entered .args .messages .now))
+    ∙ looked-good (entered .args .self .state) terms orders (at-is-good .is-good .ensures orders) (at-if1 .if1 .left) (takes-order (entered .args .order))
+    (entered .args .journal .now) (entered .args .messages .now))
 
 pub order-spec : {M : Type 1} → statement M
 order-spec =

@@ -24,14 +24,16 @@ returns c =
     let terms = entered .args .terms .now in
     let orders = entered .args .orders .now in
     rw (c .boxed .ensures, at-refused .refused .ensures)
-    (looked-bad (entered .args .self .state) terms orders (at-is-good .is-good .ensures orders) (at-if1 .if1 .taken) (receives (entered .args .bytes .now)) (entered .args .journal .now) (entered .args .messages .now))
+    (looked-bad (entered .args .self .state) terms orders (at-is-good .is-good .ensures orders) (at-if1 .if1 .taken) (receives (entered .args .bytes .now))
+    (entered .args .journal .now) (entered .args .messages .now))
 
 run-bytes-requires : tie.Need-run-bytes-requires
 run-bytes-requires c κs =
     let at-if1 = c .before .before .before .before in
     let at-is-good = at-if1 .before in
     let entered = at-is-good .before .before .before .before .before .before .before in
-    looked-ready (entered .args .self .state) (entered .args .terms .now) (entered .args .orders .now) (at-is-good .is-good .ensures (entered .args .orders .now)) (at-if1 .if1 .left)
+    looked-ready (entered .args .self .state) (entered .args .terms .now) (entered .args .orders .now) (at-is-good .is-good .ensures (entered .args .orders .now))
+    (at-if1 .if1 .left)
     (search needs) (search needs)
 
 boxed-requires-2 : tie.Need-boxed-requires-2
@@ -53,7 +55,8 @@ returns-2 c =
     let orders = entered .args .orders .now in
     rw (c .boxed2 .ensures)
     (at-run-bytes .run-bytes .ensures
-    ∙ looked-good (entered .args .self .state) terms orders (at-is-good .is-good .ensures orders) (at-if1 .if1 .left) (receives (entered .args .bytes .now)) (entered .args .journal .now) (entered .args .messages .now))
+    ∙ looked-good (entered .args .self .state) terms orders (at-is-good .is-good .ensures orders) (at-if1 .if1 .left) (receives (entered .args .bytes .now))
+    (entered .args .journal .now) (entered .args .messages .now))
 
 pub receive-spec : {M : Type 1} → statement M
 receive-spec =

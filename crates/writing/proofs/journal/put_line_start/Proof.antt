@@ -33,32 +33,32 @@ same-length c = search needs
 
 returns : tie.Need-returns
 returns c =
-    let args = c .before .before .before .before .before .before .before .before .before .before .before .before .before .before .before .before .before .before .before .before .before .before .before .before .before .before .before .before .before .args in
-    let pre = c .before .before .before .before .before .before .before .before .before .before .before .before .before .before .before .before .before .before .before .before .before .before .before .before .before .before .before .before .before .pre in
-    let version = c .before .before .before .before .before .before .before .before .before .before .before .before .before .before .before .before .before .before .before .before .before .before .before .before .before .before .put-u8 in
-    let kind = c .before .before .before .before .before .before .before .before .before .before .before .before .before .before .before .before .before .before .before .before .before .before .put-u82 in
-    let box = c .before .before .before .before .before .before .before .before .before .before .before .before .before .before .before .before .before .before .put-u83 in
-    let term = c .before .before .before .before .before .before .before .before .before .before .before .before .before .before .put-u32 in
-    let vote = c .before .before .before .before .before .before .before .before .before .before .put-u84 in
-    let kept = c .before .before .before .before .before .before .put-u16 in
-    let count = c .before .before .put-u85 in
-    let d = args .room .now in
-    let n = args .next in
+    let at-count = c .before .before in
+    let at-kept = at-count .before .before .before .before in
+    let at-vote = at-kept .before .before .before .before in
+    let at-term = at-vote .before .before .before .before in
+    let at-box = at-term .before .before .before .before in
+    let at-kind = at-box .before .before .before .before in
+    let at-version = at-kind .before .before .before .before in
+    let entered = at-version .before .before .before in
+    let d = entered .args .room .now in
+    let n = entered .args .next in
     let head = number 1 1 ∷ number 1 16 ∷ [] in
-    put-next d 0 (number 1 1 ∷ number 1 16 ∷ number 1 (n .me) ∷ number 4 (n .term) ∷ number 1 (n .vote) ∷ number 2 (args .kept) ∷ []) (number 1 (args .count)) (omega (arith, pre))
-    (put-next d 0 (number 1 1 ∷ number 1 16 ∷ number 1 (n .me) ∷ number 4 (n .term) ∷ number 1 (n .vote) ∷ []) (number 2 (args .kept)) (omega (arith, pre))
-    (put-next d 0 (number 1 1 ∷ number 1 16 ∷ number 1 (n .me) ∷ number 4 (n .term) ∷ []) (number 1 (n .vote)) (omega (arith, pre))
-    (put-next d 0 (number 1 1 ∷ number 1 16 ∷ number 1 (n .me) ∷ []) (number 4 (n .term)) (omega (arith, pre))
-    (put-next d 0 (number 1 1 ∷ number 1 16 ∷ []) (number 1 (n .me)) (omega (arith, pre))
-    (put-next d 0 (number 1 1 ∷ []) (number 1 16) (omega (arith, pre))
-    (put-next d 0 [] (number 1 1) (omega (arith, pre)) (put-none d 0)
-    (version .ensures))
-    (kind .ensures))
-    (box .ensures))
-    (term .ensures))
-    (vote .ensures))
-    (kept .ensures))
-    (count .ensures)
+    put-next d 0 (number 1 1 ∷ number 1 16 ∷ number 1 (n .me) ∷ number 4 (n .term) ∷ number 1 (n .vote) ∷ number 2 (entered .args .kept) ∷ [])
+    (number 1 (entered .args .count)) (omega (arith, entered .pre))
+    (put-next d 0 (number 1 1 ∷ number 1 16 ∷ number 1 (n .me) ∷ number 4 (n .term) ∷ number 1 (n .vote) ∷ []) (number 2 (entered .args .kept)) (omega (arith, entered .pre))
+    (put-next d 0 (number 1 1 ∷ number 1 16 ∷ number 1 (n .me) ∷ number 4 (n .term) ∷ []) (number 1 (n .vote)) (omega (arith, entered .pre))
+    (put-next d 0 (number 1 1 ∷ number 1 16 ∷ number 1 (n .me) ∷ []) (number 4 (n .term)) (omega (arith, entered .pre))
+    (put-next d 0 (number 1 1 ∷ number 1 16 ∷ []) (number 1 (n .me)) (omega (arith, entered .pre))
+    (put-next d 0 (number 1 1 ∷ []) (number 1 16) (omega (arith, entered .pre))
+    (put-next d 0 [] (number 1 1) (omega (arith, entered .pre)) (put-none d 0)
+    (at-version .put-u8 .ensures))
+    (at-kind .put-u82 .ensures))
+    (at-box .put-u83 .ensures))
+    (at-term .put-u32 .ensures))
+    (at-vote .put-u84 .ensures))
+    (at-kept .put-u16 .ensures))
+    (at-count .put-u85 .ensures)
 
 pub put-line-start-spec : {M : Type 1} → statement M
 put-line-start-spec =
