@@ -1,14 +1,14 @@
 -- Block by block: a head alone, and the lines of a block one after the other. Assumes nothing.
 use Prim.Native.Nat.{ℕ, _+_, _-_, _≤_}
 use native.Mathlib.Omega.{arith}
-use mathlib.Core.Path.{_≡_, refl, sym, ap, _∙_}
+use mathlib.Core.Path.{_≡_, refl, sym, _∙_}
 use mathlib.Core.Bool.{Bool, true, false, cond}
 use mathlib.Core.List.{List}
-use lib.ListN.{length, take, drop, length-take, length-drop}
+use lib.ListN.{length, take, drop, length-take}
 use borrow.Author.Tests.{eq-eqb, ne-eqb}
 use Rattle.frames.specs.Limits.{log-limit}
 use Rattle.text.specs.Lines.{first-line}
-use Rattle.text.specs.LinesLaws.{first-most}
+use Rattle.text.specs.LinesLaws.{first-most, end-inside}
 use Rattle.raft.specs.Record.{fresh}
 use Rattle.record.specs.declared.Record.{Record}
 use Rattle.record.specs.Calls.{record-of}
@@ -72,10 +72,6 @@ counted-first start bytes terms orders = record { inside = omega arith; few = om
 
 module _ {start : Record} {bytes terms₀ orders₀ : List ℕ} {state : Record} {terms orders : List ℕ} {at number : ℕ}
     (s : Counted start bytes terms₀ orders₀ state terms orders at number) {end : ℕ} (e : end ≡ at + first-line (drop at bytes)) where
-  -- a line ends within the bytes
-  pub line-inside : end ≤ length bytes
-  line-inside = omega (arith, e, s .inside, first-most (drop at bytes), length-drop at bytes)
-
   -- no whole line is left
   pub counted-end : end ≡ at
       → ReplaysLines start bytes terms₀ orders₀ (record { refusal = 0; state = state; bytes = at; lines = number }) terms orders
@@ -114,7 +110,7 @@ module _ {start : Record} {bytes terms₀ orders₀ : List ℕ} {state : Record}
     unfolding replay-each
     counted-next r =
         record {
-          inside = line-inside;
+          inside = end-inside bytes (s .inside) e;
           few = omega (arith, e, s .few, z);
           room = λ h. line-goes _ _ _ _ a r .room;
           same = s .same ∙ rw (lines-next bytes at (s .inside) some .0, ← e, ← gone, ← a, eq-eqb (one .refusal) 0 r, long);

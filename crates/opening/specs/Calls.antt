@@ -14,7 +14,7 @@ use Rattle.raft.specs.Journal.{Line}
 use Rattle.raft.specs.Lent.{entries-of, terms-of, orders-of}
 use Rattle.record.specs.declared.Record.{Record}
 use Rattle.record.specs.Calls.{with-entries, state-of, record-of}
-use Rattle.opening.specs.declared.Told.{Told}
+use Rattle.opening.specs.declared.LineFields.{LineFields}
 use Rattle.opening.specs.declared.Replayed as declared
 use Rattle.opening.specs.declared.Opened as answers
 use Rattle.opening.specs.declared.Block.{Block}
@@ -35,19 +35,19 @@ pub record Readable (line : List ℕ) : Type 0 where
   pub few : count-in line ≤ entry-limit
 
 -- The line that the struct tells.
-abbrev pub line-of : Told → Line
+abbrev pub line-of : LineFields → Line
 line-of l = record { box = l .who; term = l .term; vote = l .vote; kept = l .kept; entries = listed (l .entries) 0 (l .count) }
 
 -- The rules of a line but the last. The lengths are the structs' own counts; the others are the definition's, on the struct's record
 -- with no log lent.
-abbrev pub allows-numbers : Record → Told → Bool
+abbrev pub allows-numbers : Record → LineFields → Bool
 allows-numbers b l =
     is-of-box (with-entries b []) (line-of l) && term-holds (with-entries b []) (line-of l)
     && vote-is (with-entries b []) (line-of l) && vote-stays (with-entries b []) (line-of l)
     && leb (l .kept) (b .last) && (leb (l .kept + l .count) log-limit && leb (l .count) entry-limit)
 
 -- The struct with a line replayed, whatever the log's entries are: restarted, in the line's term and with its vote.
-pub record Advances (b : Record) (l : Told) (next : Record) : Type 0 where
+pub record Advances (b : Record) (l : LineFields) (next : Record) : Type 0 where
   pub state : (log : List Entry) → length log ≡ l .kept + l .count
       → with-entries next log ≡ restarted (with-log log (with-vote (l .vote) (with-term (l .term) (with-entries b []))))
   pub last : next .last ≡ l .kept + l .count

@@ -3,7 +3,7 @@ use Prim.Native.Nat.{ℕ, suc, _+_, _*_, _≤_, _<_}
 use native.Mathlib.Omega.{arith}
 use mathlib.Core.Path.{_≡_, refl, sym, ap, _∙_}
 use mathlib.Core.Bool.{Bool, true, false, cond, _&&_, _||_, and-true, and-false}
-use mathlib.Core.List.{List, [], _∷_, _++_}
+use mathlib.Core.List.{List, [], _∷_}
 use lib.Dec.{eqb, ltb, leb}
 use lib.ListN.{length, take}
 use borrow.Author.Tests.{eqb-true, eqb-false, leb-true, eq-eqb, ne-eqb}
@@ -19,11 +19,11 @@ use Rattle.frames.specs.Clauses.{four}
 use Rattle.frames.specs.Laws.{length-listed}
 use Rattle.frames.specs.ReadingLaws.{line-run, listed-places, length-entries}
 use Rattle.raft.specs.SendLaws.{All}
-use Rattle.raft.specs.Record.{State, term-at, is-membership, is-vote}
+use Rattle.raft.specs.Record.{term-at, is-membership, is-vote}
 use Rattle.raft.specs.LentLaws.{length-entries-of}
 use Rattle.record.specs.declared.Record.{Record}
 use Rattle.record.specs.Calls.{entries-of, state-of}
-use Rattle.opening.specs.declared.Told.{Told}
+use Rattle.opening.specs.declared.LineFields.{LineFields}
 use Rattle.journal.specs.Lines.{box-in, mask-in, count-in, line-shaped, line-in, head-shaped}
 use Rattle.journal.specs.Opening.{is-head, allows}
 use Rattle.journal.specs.LinesLaws.{Feedless, Whole}
@@ -128,11 +128,11 @@ shaped-run s h =
     omega (arith, line-run s (t .0), eqb-true (length s) (text-size (11 + 12 * count-in s)) (t .3))
 
 -- and its fields, at their places, are the line
-pub told-line : (s : List ℕ) (who term vote kept count : ℕ) (es : List Entry) → who ≡ field s 4 1 → term ≡ field s 6 4 → vote ≡ field s 14 1
+pub fields-line : (s : List ℕ) (who term vote kept count : ℕ) (es : List Entry) → who ≡ field s 4 1 → term ≡ field s 6 4 → vote ≡ field s 14 1
     → kept ≡ field s 16 2 → count ≡ field s 20 1 → es ≡ places (entries-at s 22 count) → count-in s ≤ 4
     → record { box = who; term = term; vote = vote; kept = kept; entries = listed es 0 count } ≡ line-in s
 unfolding line-in box-in count-in
-told-line s who term vote kept count es a b c d e f h =
+fields-line s who term vote kept count es a b c d e f h =
     rw (a, b, c, d, f, e)
     (ap (λ (n : List Entry). record { box = field s 4 1; term = field s 6 4; vote = field s 14 1; kept = field s 16 2; entries = n }) all)
   where
@@ -145,19 +145,19 @@ told-line s who term vote kept count es a b c d e f h =
 -- ---- its rules
 
 -- on the structs
-pub allows-by : (b : Record) (l : Told) (terms orders : List ℕ)
+pub allows-by : (b : Record) (l : LineFields) (terms orders : List ℕ)
     → allows (state-of b terms orders) (line-of l)
     ≡ (allows-numbers b l && in-order (term-at (entries-of terms orders 0 (b .last)) (l .kept)) (l .term) (listed (l .entries) 0 (l .count)))
 unfolding allows
 allows-by b l terms orders = rw (length-listed (l .entries) 0 (l .count), length-entries-of terms orders 0 (b .last))
 
 -- what they say of the numbers
-pub record Numbers (b : Record) (l : Told) : Type 0 where
+pub record Numbers (b : Record) (l : LineFields) : Type 0 where
   pub inside : l .kept ≤ b .last
   pub room : l .kept + l .count ≤ log-limit
   pub few : l .count ≤ entry-limit
 
-pub numbers : (b : Record) (l : Told) → allows-numbers b l ≡ true → Numbers b l
+pub numbers : (b : Record) (l : LineFields) → allows-numbers b l ≡ true → Numbers b l
 numbers b l h =
     let front = eqb (l .who) (b .me) && (leb 1 (l .term) && leb (b .term) (l .term)) && is-vote (b .members) (l .vote) in
     let t = four front (ltb (b .term) (l .term) || eqb (b .vote) 0 || eqb (l .vote) (b .vote)) (leb (l .kept) (b .last)) (leb (l .kept + l .count) log-limit && leb (l .count) entry-limit) h in
@@ -167,5 +167,5 @@ numbers b l h =
       few = leb-true _ _ (and-right (leb (l .kept + l .count) log-limit) _ (t .3));
     }
 
-pub allowed-numbers : (b : Record) (l : Told) (terms orders : List ℕ) → allows (state-of b terms orders) (line-of l) ≡ true → Numbers b l
+pub allowed-numbers : (b : Record) (l : LineFields) (terms orders : List ℕ) → allows (state-of b terms orders) (line-of l) ≡ true → Numbers b l
 allowed-numbers b l terms orders a = numbers b l (and-left (allows-numbers b l) _ (sym (allows-by b l terms orders) ∙ a))

@@ -1,22 +1,21 @@
 -- Opening a whole journal, as the code comes to it. Assumes nothing.
-use Prim.Native.Nat.{ℕ, suc, _+_, _≤_}
+use Prim.Native.Nat.{ℕ, _+_, _≤_}
 use native.Mathlib.Nat.{zero-add}
 use native.Mathlib.Omega.{arith}
 use mathlib.Core.Path.{_≡_, refl, sym, ap, _∙_}
 use mathlib.Core.Bool.{Bool, true, false, cond, _&&_, true≢false}
-use mathlib.Core.List.{List, [], _∷_}
+use mathlib.Core.List.{List, _∷_}
 use lib.Dec.{eqb}
 use lib.ListN.{length, take, drop, length-take}
 use borrow.Author.Tests.{eqb-true, eqb-false}
 use Rattle.digits.specs.Room.{over}
 use Rattle.digits.specs.Tests.{and-left, and-right}
 use Rattle.frames.specs.Limits.{boxes, log-limit}
-use Rattle.frames.specs.Clauses.{four}
 use Rattle.text.specs.Lines.{first-line}
 use Rattle.text.specs.LinesLaws.{first-most}
 use Rattle.raft.specs.Majority.{holds}
-use Rattle.raft.specs.Record.{State, fresh, is-membership}
-use Rattle.raft.specs.RecordLaws.{at-box, Member, member-facts}
+use Rattle.raft.specs.Record.{fresh}
+use Rattle.raft.specs.RecordLaws.{at-box, member-facts}
 use Rattle.raft.specs.Lent.{entries-of, terms-of, orders-of}
 use Rattle.raft.specs.LentLaws.{terms-are, orders-are}
 use Rattle.record.specs.declared.Record.{Record}

@@ -1,15 +1,15 @@
 -- One line and all lines, as the code comes to them: the answer, the record's struct and the lent log. Assumes nothing.
-use Prim.Native.Nat.{ℕ, suc, _+_, _-_, _≤_, _<_, min}
+use Prim.Native.Nat.{ℕ, _+_, _-_, _≤_, _<_, min}
 use native.Mathlib.Nat.{add-zero, sub-zero}
 use native.Mathlib.Numerals.{add-one}
 use native.Mathlib.Omega.{arith}
 use mathlib.Core.Path.{_≡_, refl, sym, ap, _∙_}
 use mathlib.Core.Bool.{Bool, true, false, cond, _&&_, and-false, true≢false}
 use mathlib.Core.List.{List, [], _∷_, _++_}
-use lib.Dec.{eqb, leb}
-use lib.ListN.{length, take, drop, length-append, length-take, length-drop, take-append-drop}
+use lib.Dec.{leb}
+use lib.ListN.{length, take, drop, length-append, length-take, take-append-drop}
 use lib.Seq.{length-take-le, drop-drop}
-use borrow.Author.Tests.{leb-true, lt-leb}
+use borrow.Author.Tests.{leb-true}
 use Rattle.digits.specs.Room.{over}
 use Rattle.digits.specs.Tests.{and-left, and-right}
 use Rattle.frames.specs.declared.Entry.{Entry}
@@ -19,7 +19,7 @@ use Rattle.frames.specs.Clauses.{four}
 use Rattle.frames.specs.Laws.{length-listed}
 use Rattle.frames.specs.ReadingLaws.{length-entries}
 use Rattle.text.specs.Lines.{first-line}
-use Rattle.text.specs.LinesLaws.{first-most}
+use Rattle.text.specs.LinesLaws.{first-most, end-inside}
 use Rattle.raft.specs.Record.{State}
 use Rattle.raft.specs.Journal.{Line}
 use Rattle.raft.specs.Lent.{entries-of, terms-of, orders-of}
@@ -30,8 +30,8 @@ use Rattle.record.specs.SameLaws.{record-same, lent-same, written-log}
 use Rattle.journal.specs.Lines.{lines, whole-bytes, count-in, line-shaped, line-in}
 use Rattle.journal.specs.LinesLaws.{lines-none, lines-first, counted-none, counted-line}
 use Rattle.journal.specs.Opening.{restarted, is-of-box, term-holds, vote-is, vote-stays, kept-holds, count-holds, entries-hold, allows, after}
-use Rattle.journal.specs.Opening.{Replayed, next, breaks, replayed, Opened, opened, headless, broken, go-on, replay}
-use Rattle.opening.specs.declared.Told.{Told}
+use Rattle.journal.specs.Opening.{Replayed, next, breaks, replayed, Opened, go-on, replay}
+use Rattle.opening.specs.declared.LineFields.{LineFields}
 use Rattle.opening.specs.declared.Replayed as declared
 use Rattle.opening.specs.declared.Opened as answers
 use Rattle.opening.specs.Calls.{LentLog, line-of, allows-numbers, Advances, Replaying, replaying-by, replaying, Replays, none, Found, Begins}
@@ -77,7 +77,7 @@ module _ (b : Record) (bytes terms orders : List ℕ) where
         go false e = e
 
   -- a good line
-  module _ (l : Told) (h : line-shaped bytes ≡ true) (e : line-of l ≡ line-in bytes) (a : allows s (line-of l) ≡ true)
+  module _ (l : LineFields) (h : line-shaped bytes ≡ true) (e : line-of l ≡ line-in bytes) (a : allows s (line-of l) ≡ true)
       (lent : LentLog terms orders) where
     abbrev es : List Entry
     es = listed (l .entries) 0 (l .count)
@@ -146,20 +146,20 @@ replayed-room s bytes t = go (line-shaped bytes && allows s (line-in bytes)) ref
 
 module _ (b : Record) (bytes terms orders : List ℕ) {one : declared.Replayed} {terms' orders' : List ℕ}
     (e : Replays b bytes terms orders one terms' orders') where
-  abbrev told : Replayed
-  told = replayed (state-of b terms orders) bytes
+  abbrev comes : Replayed
+  comes = replayed (state-of b terms orders) bytes
 
-  by : {r : Replayed} → told ≡ r
+  by : {r : Replayed} → comes ≡ r
       → _≡_ {A = Replaying} (record { answer = one; terms = terms'; orders = orders' }) (replaying-by r b terms orders)
   unfolding replaying
   by k = e ∙ ap (λ (x : Replayed). replaying-by x b terms orders) k
 
   -- A line that breaks a rule
-  pub line-breaks : (one .refusal ≡ 0 → ⊥) → told ≡ breaks
+  pub line-breaks : (one .refusal ≡ 0 → ⊥) → comes ≡ breaks
   unfolding replaying-by
-  line-breaks h = go told refl
+  line-breaks h = go comes refl
     where
-      go : (r : Replayed) → told ≡ r → told ≡ breaks
+      go : (r : Replayed) → comes ≡ r → comes ≡ breaks
       go (next t) k = absurd (h (ap (λ (x : Replaying). x .answer .refusal) (by k)))
       go breaks k = k
 
@@ -172,15 +172,15 @@ module _ (b : Record) (bytes terms orders : List ℕ) {one : declared.Replayed} 
   -- and a good one leaves the next record: a struct and a log that are it, and fit.
   pub record Goes : Type 0 where
     pub to : State
-    pub is : told ≡ next to
+    pub is : comes ≡ next to
     pub same : state-of (one .state) terms' orders' ≡ to
     pub room : one .state .last ≤ log-limit
 
   pub line-goes : one .refusal ≡ 0 → Goes
   unfolding replaying-by
-  line-goes h = go told refl
+  line-goes h = go comes refl
     where
-      go : (r : Replayed) → told ≡ r → Goes
+      go : (r : Replayed) → comes ≡ r → Goes
       go breaks k = absurd (omega (arith, h, ap (λ (x : Replaying). x .answer .refusal) (by k)))
       go (next t) k =
           let state : one .state ≡ record-of t = ap (λ (x : Replaying). x .answer .state) (by k) in
@@ -249,10 +249,6 @@ reached-first b =
 
 module _ {bytes : List ℕ} {first : ℕ} {start : State} {state : Record} {terms orders : List ℕ} {at number : ℕ}
     (s : Reached bytes first start state terms orders at number) {end : ℕ} (e : end ≡ at + first-line (drop at bytes)) where
-  -- a line ends within the bytes
-  pub end-inside : end ≤ length bytes
-  end-inside = omega (arith, e, s .inside, first-most (drop at bytes), length-drop at bytes)
-
   -- no line is left
   pub reached-end : end ≡ at → Found (record { refusal = 0; state = state; bytes = at; line = 0 }) terms orders (all bytes first start)
   unfolding Found replay
@@ -290,7 +286,7 @@ module _ {bytes : List ℕ} {first : ℕ} {start : State} {state : Record} {term
         let goes = line-goes _ _ _ _ a q in
         record {
           lent = lent;
-          inside = end-inside;
+          inside = end-inside bytes (s .inside) e;
           counted = omega (arith, e, s .counted, z);
           room = goes .room;
           bytes-left = rw e (omega (arith, s .bytes-left, lines-next bytes at (s .inside) some .1));

@@ -6,19 +6,20 @@ mod whole;
 pub use blocks::replay_head;
 pub use blocks::replay_lines;
 use frames::Entry;
+use frames::Fields;
 pub use lines::is_head_shaped;
 use record::Record;
 pub use whole::open;
 pub use whole::replay;
 
 // What a journal line tells: "01, 10, box, term 4, vote 1, kept 2, count 1, entries".
-pub struct Told {
+pub struct LineFields {
     pub who: u8,
     pub term: u32,
     pub vote: u8,
     pub kept: u16,
     pub count: u8,
-    pub entries: [Entry; 4],
+    pub entries: [Entry; Fields::ENTRIES],
 }
 
 // One line's answer: 0 and the next record, or 10 and the record as it was.

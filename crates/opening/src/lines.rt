@@ -1,5 +1,6 @@
 // A journal's lines: their form, their fields, and the rules that one keeps behind the record so far.
-use crate::Told;
+use crate::LineFields;
+use frames::Fields;
 use frames::in_order;
 use record::Record;
 use rules::is_vote;
@@ -58,14 +59,14 @@ pub fn is_shaped(s: &[u8]) -> bool
 }
 
 // The fields of a line, each from its place.
-pub fn told(s: &[u8]) -> Told
+pub fn line_fields(s: &[u8]) -> LineFields
     requires { ⌜ Readable (now s) ⌝ }
     ensures { λ r. ⌜ line-of r ≡ line-in (now (s .entry)) ⌝ }
     ensures { λ r. ⌜ r .count ≤ 4 ⌝ }
 {
     let count = digits::get_u8(s, 20);
     let entries = frame_reader::entries(s, 22, count);
-    Told {
+    LineFields {
         who: digits::get_u8(s, 4),
         term: digits::get_u32(s, 6),
         vote: digits::get_u8(s, 14),
@@ -76,7 +77,7 @@ pub fn told(s: &[u8]) -> Told
 }
 
 // The rules but the last, which look at numbers alone.
-fn allows_numbers(n: Record, l: Told) -> bool
+fn allows_numbers(n: Record, l: LineFields) -> bool
     ensures { λ r. ⌜ r ≡ allows-numbers n l ⌝ }
 {
     (l.who == n.me)
@@ -84,11 +85,12 @@ fn allows_numbers(n: Record, l: Told) -> bool
         & is_vote(n.members, l.vote)
         & ((n.term < l.term) | (n.vote == 0) | (l.vote == n.vote))
         & (l.kept <= n.last)
-        & ((l.kept as u32 + l.count as u32 <= 256) & (l.count <= 4))
+        & ((l.kept as u32 + l.count as u32 <= Fields::LOG as u32)
+            & (l.count as usize <= Fields::ENTRIES))
 }
 
 // Every rule of a line behind the record so far.
-pub fn is_allowed(n: Record, l: Told, terms: &[u32]) -> bool
+pub fn is_allowed(n: Record, l: LineFields, terms: &[u32]) -> bool
     requires { ⌜ length (now terms) ≡ log-limit ⌝ }
     requires { ⌜ l .count ≤ 4 ⌝ }
     ensures { λ r. ⌜ ((orders : List ℕ) → r ≡ allows (state-of n (now (terms .entry)) orders) (line-of l)) ⌝ }

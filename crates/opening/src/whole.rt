@@ -1,14 +1,15 @@
 // Opening: the head, then one line at a time over a record of fixed size. The log is made aside and handed over only when every line
 // was good.
+use crate::LineFields;
 use crate::Opened;
 use crate::Replayed;
-use crate::Told;
 use crate::lines::head_mask;
 use crate::lines::is_allowed;
 use crate::lines::is_shaped;
-use crate::lines::told;
+use crate::lines::line_fields;
 use changes::following;
 use changes::fresh;
+use frames::Fields;
 use record::Record;
 use text::line_end;
 ghost use mathlib.Core.Path.{_≡_};
@@ -28,7 +29,7 @@ fn breaks(n: Record) -> Replayed
 }
 
 // The record with a line replayed: a follower, commit 0.
-fn after(n: Record, l: Told) -> Record
+fn after(n: Record, l: LineFields) -> Record
     requires { ⌜ l .kept + l .count ≤ log-limit ⌝ }
     ensures { λ r. ⌜ Advances n l r ⌝ }
 {
@@ -48,10 +49,10 @@ pub fn replay(n: Record, line: &[u8], terms: &mut [u32], orders: &mut [u64]) -> 
     if !is_shaped(line) {
         return breaks(n);
     }
-    if 4 < digits::get_u8(line, 20) {
+    if Fields::ENTRIES < digits::get_u8(line, 20) as usize {
         return breaks(n);
     }
-    let l = told(line);
+    let l = line_fields(line);
     if !is_allowed(n, l, &terms[..]) {
         return breaks(n);
     }

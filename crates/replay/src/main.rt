@@ -1,6 +1,6 @@
 // A look into a journal: the first line asks for a box, the rest is its journal. It reads, has the lines replayed by the library, and prints.
 use libc::STDOUT_FILENO;
-use record::Node;
+use record::Record;
 ghost use Prim.Native.Nat.{_≤_};
 ghost use mathlib.Core.Path.{_≡_};
 ghost use lib.ListN.{length};
@@ -9,7 +9,7 @@ ghost use Rattle.frames.specs.Limits.{log-limit};
 // What the lines behind the head came to: 0, or 10 and how many were good before; the record, and their bytes.
 struct Ended {
     refusal: u8,
-    node: Node,
+    state: Record,
     bytes: u64,
     lines: u64,
 }
@@ -27,30 +27,30 @@ fn bad_line(good: u64) {
 
 // The lines behind the head: those in the block already, then what is read.
 fn later_lines(
-    n: Node,
+    n: Record,
     input: &mut [u8],
     filled: usize,
-    terms: &mut [u32; Node::LOG],
-    orders: &mut [u64; Node::LOG],
+    terms: &mut [u32; Record::LOG],
+    orders: &mut [u64; Record::LOG],
 ) -> Ended
     requires { ⌜ filled ≤ length (now input) ⌝ }
     requires { ⌜ n .last ≤ log-limit ⌝ }
-    ensures { λ r. ⌜ r .node .last ≤ log-limit ⌝ }
+    ensures { λ r. ⌜ r .state .last ≤ log-limit ⌝ }
 {
-    let mut node = n;
+    let mut state = n;
     let mut held = filled;
     let mut bytes: u64 = 0;
     let mut lines: u64 = 0;
     let mut turns = u64::MAX;
     while turns > 0 {
-        let block = opening::replay_lines(node, &input[..held], terms, orders);
-        node = block.node;
+        let block = opening::replay_lines(state, &input[..held], terms, orders);
+        state = block.state;
         bytes = std::num::wrapping_add_u64(bytes, block.bytes as u64);
         lines = std::num::wrapping_add_u64(lines, block.lines as u64);
         if block.refusal != 0 {
             return Ended {
                 refusal: 10,
-                node,
+                state,
                 bytes,
                 lines,
             };
@@ -65,14 +65,20 @@ fn later_lines(
     }
     Ended {
         refusal: 0,
-        node,
+        state,
         bytes,
         lines,
     }
 }
 
 // Prints the record, the head's nine bytes counted.
-fn show(n: Node, bytes: u64, terms: &[u32; Node::LOG], orders: &[u64; Node::LOG], output: &mut [u8])
+fn show(
+    n: Record,
+    bytes: u64,
+    terms: &[u32; Record::LOG],
+    orders: &[u64; Record::LOG],
+    output: &mut [u8],
+)
     requires { ⌜ n .last ≤ log-limit ⌝ }
     requires { ⌜ 6484 ≤ length (now output) ⌝ }
 {
@@ -93,16 +99,16 @@ fn open(me: u8, input: &mut [u8], filled: usize, output: &mut [u8])
 {
     let head = reader::whole_line(input, filled);
     let opened = opening::replay_head(me, &input[..head.end]);
-    let node = opened.node;
+    let state = opened.state;
     if opened.refusal != 0 {
         no_head();
         return;
     }
     let left = reader::keep(input, head.end, head.held);
-    let mut terms = [0u32; Node::LOG];
-    let mut orders = [0u64; Node::LOG];
-    let ended = later_lines(node, input, left, &mut terms, &mut orders);
-    let last = ended.node;
+    let mut terms = [0u32; Record::LOG];
+    let mut orders = [0u64; Record::LOG];
+    let ended = later_lines(state, input, left, &mut terms, &mut orders);
+    let last = ended.state;
     if ended.refusal != 0 {
         bad_line(ended.lines);
         return;

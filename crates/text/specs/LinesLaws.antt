@@ -27,6 +27,10 @@ first-most (b ∷ bytes) = go (eqb b line-feed) (eqb (first-line bytes) 0) (firs
     go false true l = omega arith
     go false false l = omega arith
 
+-- so it ends within them
+pub end-inside : (bytes : List ℕ) {at end : ℕ} → at ≤ length bytes → end ≡ at + first-line (drop at bytes) → end ≤ length bytes
+end-inside bytes {at} h e = omega (arith, h, e, first-most (drop at bytes), length-drop at bytes)
+
 -- a line feed ends it
 first-here : (bytes : List ℕ) (i : ℕ) → i < length bytes → getD bytes i 0 ≡ line-feed → first-line (drop i bytes) ≡ 1
 unfolding first-line

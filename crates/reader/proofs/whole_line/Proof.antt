@@ -1,7 +1,8 @@
 -- What is held never passes the block.
 use borrow.Author.Needs.{needs}
 use native.Mathlib.Omega.{arith}
-use Prim.Native.Nat.{_≤_}
+use Prim.Native.Nat.{ℕ, _≤_}
+use mathlib.Core.List.{List}
 use mathlib.Core.Path.{_≡_, refl}
 use lib.ListN.{length, take, length-take}
 use Rattle.text.specs.Lines.{first-line}
@@ -9,8 +10,12 @@ use Rattle.text.specs.LinesLaws.{first-most}
 use Rattle.reader.proofs.whole_line.Statement.{statement}
 use Rattle.reader.proofs.whole_line.Tie as tie
 
+record Held (block₀ block : List ℕ) (held : ℕ) : Type 0 where
+  within : held ≤ length block
+  long : length block ≡ length block₀
+
 abbrev Inv-loop : tie.InvT-loop
-Inv-loop block₀ filled held₀ turns₀ block held turns = (held ≤ length block) × (length block ≡ length block₀)
+Inv-loop block₀ filled held₀ turns₀ block held turns = Held block₀ block held
 
 abbrev μ-loop : tie.MeasureT-loop
 μ-loop block₀ filled held₀ turns₀ block held turns = turns
@@ -24,7 +29,7 @@ slice-reshare-prefix-line-end c = search needs
 slice-aggregate-line-end : tie.Need-slice-aggregate-line-end Inv-loop μ-loop
 slice-aggregate-line-end c =
     let loop = c .before .before .loop in
-    simp length-take (omega (arith, loop .inv .0))
+    simp length-take (omega (arith, loop .inv .within))
 
 line-end-requires : tie.Need-line-end-requires Inv-loop μ-loop
 line-end-requires c κs = search needs
@@ -36,7 +41,8 @@ returns : tie.Need-returns Inv-loop μ-loop
 returns c =
     let line-end = c .before .line-end in
     let loop = c .before .before .before .before .loop in
-    (omega (arith, line-end .ensures, first-most (take (loop .held) (loop .block)), length-take (loop .held) (loop .block)), omega (arith, loop .inv .0, loop .inv .1))
+    let line = first-most (take (loop .held) (loop .block)) in
+    (omega (arith, line-end .ensures, line, length-take (loop .held) (loop .block)), omega (arith, loop .inv .within, loop .inv .long))
 
 shorten-requires : tie.Need-shorten-requires Inv-loop μ-loop
 shorten-requires c κs = search needs

@@ -1,19 +1,26 @@
 -- What is held never passes the block, nor the log its limit.
 use borrow.Author.Needs.{needs}
 use native.Mathlib.Omega.{arith}
-use Prim.Native.Nat.{_≤_}
+use Prim.Native.Nat.{ℕ, _≤_}
+use mathlib.Core.List.{List}
 use mathlib.Core.Path.{_≡_}
 use lib.ListN.{length, length-take}
 use Rattle.frames.specs.Limits.{log-limit}
+use Rattle.record.specs.declared.Record.{Record}
 use Rattle.replay.proofs.later_lines.Statement.{statement}
 use Rattle.replay.proofs.later_lines.Tie as tie
 
+record Held (input₀ : List ℕ) (state : Record) (input : List ℕ) (held : ℕ) : Type 0 where
+  within : held ≤ length input
+  long : length input ≡ length input₀
+  room : state .last ≤ log-limit
+
 abbrev Inv-loop : tie.InvT-loop
-Inv-loop input₀ filled terms₀ orders₀ node₀ held₀ bytes₀ lines₀ turns₀ input terms orders node held bytes lines turns =
-    (held ≤ length input) × (length input ≡ length input₀) × (node .last ≤ log-limit)
+Inv-loop input₀ filled terms₀ orders₀ state₀ held₀ bytes₀ lines₀ turns₀ input terms orders state held bytes lines turns =
+    Held input₀ state input held
 
 abbrev μ-loop : tie.MeasureT-loop
-μ-loop input₀ filled terms₀ orders₀ node₀ held₀ bytes₀ lines₀ turns₀ input terms orders node held bytes lines turns = turns
+μ-loop input₀ filled terms₀ orders₀ state₀ held₀ bytes₀ lines₀ turns₀ input terms orders state held bytes lines turns = turns
 
 loop-holds : tie.Need-loop-holds Inv-loop μ-loop
 loop-holds c = search needs
@@ -23,8 +30,8 @@ slice-reshare-prefix-replay-lines c = search needs
 
 slice-aggregate-replay-lines : tie.Need-slice-aggregate-replay-lines Inv-loop μ-loop
 slice-aggregate-replay-lines c =
-    let loop = c .before .before .loop in
-    simp length-take (omega (arith, loop .inv .0))
+    let at-loop = c .before .before in
+    simp length-take (omega (arith, at-loop .loop .inv .within))
 
 replay-lines-requires : tie.Need-replay-lines-requires Inv-loop μ-loop
 replay-lines-requires c κs = search needs
@@ -40,15 +47,15 @@ same-length c = search needs
 
 returns : tie.Need-returns Inv-loop μ-loop
 returns c =
-    let replay-lines = c .before .before .before .before .before .replay-lines in
-    let loop = c .before .before .before .before .before .before .before .before .before .before .loop in
-    replay-lines .ensures .1 .1 (loop .inv .2)
+    let at-replay-lines = c .before .before .before .before .before in
+    let at-loop = at-replay-lines .before .before .before .before .before in
+    at-replay-lines .replay-lines .ensures .room (at-loop .loop .inv .room)
 
 keep-requires : tie.Need-keep-requires Inv-loop μ-loop
 keep-requires c κs =
-    let replay-lines = c .before .before .before .before .before .before .replay-lines in
-    let loop = c .before .before .before .before .before .before .before .before .before .before .before .loop in
-    (omega (arith, replay-lines .ensures .1 .0, length-take (loop .held) (loop .input)), loop .inv .0)
+    let at-replay-lines = c .before .before .before .before .before .before in
+    let at-loop = at-replay-lines .before .before .before .before .before in
+    (omega (arith, at-replay-lines .replay-lines .ensures .inside, length-take (at-loop .loop .held) (at-loop .loop .input)), at-loop .loop .inv .within)
 
 shorten-requires : tie.Need-shorten-requires Inv-loop μ-loop
 shorten-requires c κs = search needs
@@ -64,11 +71,16 @@ loop-less c = search needs
 
 loop-again : tie.Need-loop-again Inv-loop μ-loop
 loop-again c =
-    let more = c .before .before .before .more in
-    let keep = c .before .before .before .before .before .before .before .before .before .keep in
-    let loop = c .before .before .before .before .before .before .before .before .before .before .before .before .before .before .before .before .before .before .before .before .before .loop in
-    let replay-lines = c .before .before .before .before .before .before .before .before .before .before .before .before .before .before .before .before .replay-lines in
-    (omega (arith, more .ensures .1, more .kept .0), omega (arith, more .kept .0, keep .kept .0, loop .inv .1), replay-lines .ensures .1 .1 (loop .inv .2))
+    let at-more = c .before .before .before in
+    let at-keep = at-more .before .before .before .before .before .before in
+    let at-replay-lines = at-keep .before .before .before .before .before .before .before in
+    let at-loop = at-replay-lines .before .before .before .before .before in
+    let room = at-replay-lines .replay-lines .ensures .room (at-loop .loop .inv .room) in
+    record {
+      within = omega (arith, at-more .more .ensures .1, at-more .more .kept .0);
+      long = omega (arith, at-more .more .kept .0, at-keep .keep .kept .0, at-loop .loop .inv .long);
+      room = room;
+    }
 
 same-length-2 : tie.Need-same-length-2 Inv-loop μ-loop
 same-length-2 c = search needs
@@ -81,9 +93,9 @@ same-length-3 c = search needs
 
 returns-3 : tie.Need-returns-3 Inv-loop μ-loop
 returns-3 c =
-    let replay-lines = c .before .before .before .before .before .before .before .before .before .before .before .before .before .before .before .before .replay-lines in
-    let loop = c .before .before .before .before .before .before .before .before .before .before .before .before .before .before .before .before .before .before .before .before .before .loop in
-    replay-lines .ensures .1 .1 (loop .inv .2)
+    let at-replay-lines = c .before .before .before .before .before .before .before .before .before .before .before .before .before .before .before .before in
+    let at-loop = at-replay-lines .before .before .before .before .before in
+    at-replay-lines .replay-lines .ensures .room (at-loop .loop .inv .room)
 
 pub later-lines-spec : {M : Type 1} → statement M
 later-lines-spec =

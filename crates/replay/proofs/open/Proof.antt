@@ -16,8 +16,8 @@ slice-reshare-prefix-replay-head c = search needs
 
 slice-aggregate-replay-head : tie.Need-slice-aggregate-replay-head
 slice-aggregate-replay-head c =
-    let whole-line = c .before .before .before .whole-line in
-    simp length-take (omega (arith, whole-line .ensures .0, whole-line .ensures .1 .0, whole-line .kept .0))
+    let at-line = c .before .before .before in
+    simp length-take (omega (arith, at-line .whole-line .ensures .0, at-line .whole-line .ensures .1 .0, at-line .whole-line .kept .0))
 
 replay-head-requires : tie.Need-replay-head-requires
 replay-head-requires c κs = search needs
@@ -36,37 +36,41 @@ keep-requires c κs = search needs
 
 later-lines-requires : tie.Need-later-lines-requires
 later-lines-requires c κs =
-    let keep = c .before .before .before .before .before .keep in
-    let whole-line = c .before .before .before .before .before .before .before .before .before .before .before .before .before .before .whole-line in
-    let replay-head = c .before .before .before .before .before .before .before .before .before .before .replay-head in
-    let entered = c .before .before .before .before .before .before .before .before .before .before .before .before .before .before .before .before .before .before in
-    (omega (arith, keep .ensures .0, keep .kept .0, whole-line .ensures .1 .0, whole-line .kept .0), omega (arith, ap (λ (r : Replayed). r .node .last) (replay-head .ensures), heading-fits (entered .args .me) (take (whole-line .result .end) (whole-line .last .0))))
+    let at-keep = c .before .before .before .before .before in
+    let at-head = at-keep .before .before .before .before .before in
+    let at-line = at-head .before .before .before .before in
+    let entered = at-line .before .before .before .before in
+    let line = at-line .whole-line in
+    let head = take (line .result .end) (line .last .0) in
+    let last = ap (λ (r : Replayed). r .state .last) (at-head .replay-head .ensures) in
+    let held = at-keep .keep in
+    (omega (arith, held .ensures .0, held .kept .0, line .ensures .1 .0, line .kept .0), omega (arith, last, heading-fits (entered .args .me) head))
 
 bad-line-requires : tie.Need-bad-line-requires
 bad-line-requires c κs = search needs
 
 same-length-2 : tie.Need-same-length-2
 same-length-2 c =
-    let later-lines = c .before .before .before .before .before .before .later-lines in
-    let keep = c .before .before .before .before .before .before .before .before .before .before .before .before .keep in
-    let whole-line = c .before .before .before .before .before .before .before .before .before .before .before .before .before .before .before .before .before .before .before .before .before .whole-line in
-    omega (arith, later-lines .kept .1 .0, keep .kept .0, whole-line .kept .0)
+    let at-later-lines = c .before .before .before .before .before .before in
+    let at-keep = at-later-lines .before .before .before .before .before .before in
+    let at-line = at-keep .before .before .before .before .before .before .before .before .before in
+    omega (arith, at-later-lines .later-lines .kept .1 .0, at-keep .keep .kept .0, at-line .whole-line .kept .0)
 
 returns-2 : tie.Need-returns-2
 returns-2 c = search needs
 
 show-requires : tie.Need-show-requires
 show-requires c κs =
-    let later-lines = c .before .before .before .before .before .before .before .before .later-lines in
-    let entered = c .before .before .before .before .before .before .before .before .before .before .before .before .before .before .before .before .before .before .before .before .before .before .before .before .before .before .before in
-    (later-lines .ensures, entered .pre .1)
+    let at-later-lines = c .before .before .before .before .before .before .before .before in
+    let entered = at-later-lines .before .before .before .before .before .before .before .before .before .before .before .before .before .before .before .before .before .before .before in
+    (at-later-lines .later-lines .ensures, entered .pre .1)
 
 same-length-3 : tie.Need-same-length-3
 same-length-3 c =
-    let later-lines = c .before .before .before .before .before .before .before .before .before .before .before .later-lines in
-    let keep = c .before .before .before .before .before .before .before .before .before .before .before .before .before .before .before .before .before .keep in
-    let whole-line = c .before .before .before .before .before .before .before .before .before .before .before .before .before .before .before .before .before .before .before .before .before .before .before .before .before .before .whole-line in
-    omega (arith, later-lines .kept .1 .0, keep .kept .0, whole-line .kept .0)
+    let at-later-lines = c .before .before .before .before .before .before .before .before .before .before .before in
+    let at-keep = at-later-lines .before .before .before .before .before .before in
+    let at-line = at-keep .before .before .before .before .before .before .before .before .before in
+    omega (arith, at-later-lines .later-lines .kept .1 .0, at-keep .keep .kept .0, at-line .whole-line .kept .0)
 
 same-length-4 : tie.Need-same-length-4
 same-length-4 c = search needs

@@ -3,7 +3,8 @@ use borrow.Author.Needs.{needs}
 use native.Mathlib.Omega.{arith}
 use Prim.Native.Nat.{_-_}
 use lib.ListN.{length}
-use Rattle.opening.specs.BlockCode.{Counted, counted-first, line-inside, counted-end, counted-stop, counted-next}
+use Rattle.text.specs.LinesLaws.{end-inside}
+use Rattle.opening.specs.BlockCode.{Counted, counted-first, counted-end, counted-stop, counted-next}
 use Rattle.opening.proofs.blocks.replay_lines.Statement.{statement}
 use Rattle.opening.proofs.blocks.replay_lines.Tie as tie
 
@@ -35,7 +36,7 @@ part-replay-end : tie.Need-part-replay-end Inv-loop μ-loop
 part-replay-end c =
     let at-line-end = c .before in
     let at-loop = at-line-end .before in
-    line-inside (at-loop .loop .inv) (at-line-end .line-end .ensures)
+    end-inside _ (at-loop .loop .inv .inside) (at-line-end .line-end .ensures)
 
 replay-requires : tie.Need-replay-requires Inv-loop μ-loop
 replay-requires c κs = search needs
@@ -59,7 +60,7 @@ loop-less c =
     let at-if1 = c .before .before .before .before .before .before .before in
     let at-line-end = at-if1 .before in
     let at-loop = at-line-end .before in
-    omega (arith, line-inside (at-loop .loop .inv) (at-line-end .line-end .ensures), at-line-end .line-end .ensures, at-if1 .if1 .left)
+    omega (arith, end-inside _ (at-loop .loop .inv .inside) (at-line-end .line-end .ensures), at-line-end .line-end .ensures, at-if1 .if1 .left)
 
 loop-again : tie.Need-loop-again Inv-loop μ-loop
 loop-again c =

@@ -15,6 +15,12 @@ cast-result-2 c = search needs
 add-result : tie.Need-add-result
 add-result c = search needs
 
+cast-result-3 : tie.Need-cast-result-3
+cast-result-3 c = search needs
+
+cast-result-4 : tie.Need-cast-result-4
+cast-result-4 c = search needs
+
 returns : tie.Need-returns
 returns c =
     let at-is-vote = c .before .before .before .before .before .before .before .before .before .before in
@@ -22,4 +28,12 @@ returns c =
 
 pub allows-numbers-spec : {M : Type 1} → statement M
 allows-numbers-spec =
-    tie.close (tie.spec is-vote-requires cast-result cast-result-2 add-result returns)
+    tie.close
+    (tie.spec
+    is-vote-requires
+    cast-result
+    cast-result-2
+    add-result
+    cast-result-3
+    cast-result-4
+    returns)

@@ -1,7 +1,7 @@
 -- The rules on the numbers, and then the entry rule (`allows-by`).
 use borrow.Author.Needs.{needs}
 use native.Mathlib.Omega.{arith}
-use mathlib.Core.Path.{_≡_, sym, _∙_}
+use mathlib.Core.Path.{sym, _∙_}
 use borrow.Author.Tests.{not-true, not-false}
 use Rattle.opening.specs.CodeLaws.{allows-by, numbers}
 use Rattle.opening.proofs.lines.is_allowed.Statement.{statement}

@@ -1,7 +1,7 @@
 -- The tests are the definition's own.
 use borrow.Author.Needs.{needs}
 use native.Mathlib.Omega.{arith}
-use mathlib.Core.Path.{_≡_, sym, _∙_}
+use mathlib.Core.Path.{sym, _∙_}
 use borrow.Author.Tests.{not-true, not-false}
 use Rattle.frames.specs.ReadingLaws.{line-run}
 use Rattle.frames.specs.Reading.{version, kind}

@@ -30,6 +30,9 @@ get-u8-requires c κs =
     let shaped = sym (at-form .is-shaped .ensures) ∙ not-false _ (c .if1 .left) in
     omega (arith, shaped-run (entered .args .line .now) shaped)
 
+cast-if2 : tie.Need-cast-if2
+cast-if2 c = search needs
+
 breaks-requires-2 : tie.Need-breaks-requires-2
 breaks-requires-2 c κs = search needs
 
@@ -42,9 +45,9 @@ returns-2 c =
     replay-many (entered .args .n) (entered .args .line .now) (entered .args .terms .now) (entered .args .orders .now) (c .breaks2 .ensures)
     (omega (arith, at-count .get-u8 .ensures, at-if2 .if2 .taken))
 
-told-requires : tie.Need-told-requires
+line-fields-requires : tie.Need-line-fields-requires
 unfolding count-in
-told-requires c κs =
+line-fields-requires c κs =
     let at-count = c .before in
     let at-if1 = at-count .before in
     let at-form = at-if1 .before in
@@ -64,12 +67,12 @@ returns-3 : tie.Need-returns-3
 returns-3 c =
     let at-if3 = c .before in
     let at-rules = at-if3 .before in
-    let at-told = at-rules .before .before in
-    let entered = at-told .before .before .before .before .before .before .before .before in
+    let at-fields = at-rules .before .before in
+    let entered = at-fields .before .before .before .before .before .before .before .before in
     let line = entered .args .line .now in
     let orders = entered .args .orders .now in
     let broken = sym (at-rules .is-allowed .ensures orders) ∙ not-true _ (at-if3 .if3 .taken) in
-    replay-refused (entered .args .n) line (entered .args .terms .now) orders (c .breaks3 .ensures) (rw (sym (at-told .told .ensures .0)) broken)
+    replay-refused (entered .args .n) line (entered .args .terms .now) orders (c .breaks3 .ensures) (rw (sym (at-fields .line-fields .ensures .0)) broken)
 
 cast-store : tie.Need-cast-store
 cast-store c = search needs
@@ -109,15 +112,15 @@ returns-4 c =
     let at-store = c .before .before .before .before .before in
     let at-if3 = at-store .before .before .before .before .before .before in
     let at-rules = at-if3 .before in
-    let at-told = at-rules .before .before in
-    let at-if1 = at-told .before .before .before in
+    let at-fields = at-rules .before .before in
+    let at-if1 = at-fields .before .before .before in
     let at-form = at-if1 .before in
     let entered = at-form .before .before .before .before in
     let terms = entered .args .terms .now in
     let orders = entered .args .orders .now in
     let shaped = sym (at-form .is-shaped .ensures) ∙ not-false _ (at-if1 .if1 .left) in
     let holds = sym (at-rules .is-allowed .ensures orders) ∙ not-false _ (at-if3 .if3 .left) in
-    let next = replay-next (entered .args .n) (entered .args .line .now) terms orders _ shaped (at-told .told .ensures .0) holds (entered .pre) in
+    let next = replay-next (entered .args .n) (entered .args .line .now) terms orders _ shaped (at-fields .line-fields .ensures .0) holds (entered .pre) in
     next (c .after .ensures) (at-store .store .ensures .0) (at-store .store .ensures .1)
 
 pub replay-spec : {M : Type 1} → statement M
@@ -128,9 +131,10 @@ replay-spec =
     breaks-requires
     returns
     get-u8-requires
+    cast-if2
     breaks-requires-2
     returns-2
-    told-requires
+    line-fields-requires
     is-allowed-requires
     breaks-requires-3
     same-length

@@ -1,11 +1,12 @@
 -- What was replayed and what is left make the whole opening (`Reached`); each turn takes a line.
 use borrow.Author.Needs.{needs}
 use native.Mathlib.Omega.{arith}
-use mathlib.Core.Path.{_≡_, sym, _∙_}
+use mathlib.Core.Path.{sym, _∙_}
 use Prim.Native.Nat.{_-_}
 use lib.ListN.{length}
 use Rattle.record.specs.Calls.{state-of}
-use Rattle.opening.specs.ReplayCode.{Reached, reached-first, end-inside, reached-end, reached-broken, reached-next}
+use Rattle.text.specs.LinesLaws.{end-inside}
+use Rattle.opening.specs.ReplayCode.{Reached, reached-first, reached-end, reached-broken, reached-next}
 use Rattle.opening.proofs.whole.replay_all.Statement.{statement}
 use Rattle.opening.proofs.whole.replay_all.Tie as tie
 
@@ -45,7 +46,7 @@ part-replay-end : tie.Need-part-replay-end Inv-loop μ-loop
 part-replay-end c =
     let at-line-end = c .before in
     let at-loop = at-line-end .before in
-    end-inside (at-loop .loop .inv) (at-line-end .line-end .ensures)
+    end-inside _ (at-loop .loop .inv .inside) (at-line-end .line-end .ensures)
 
 replay-requires : tie.Need-replay-requires Inv-loop μ-loop
 replay-requires c κs = search needs
@@ -84,7 +85,7 @@ loop-less c =
     let at-if1 = c .before .before .before .before .before .before .before .before .before .before .before in
     let at-line-end = at-if1 .before in
     let at-loop = at-line-end .before in
-    omega (arith, end-inside (at-loop .loop .inv) (at-line-end .line-end .ensures), at-line-end .line-end .ensures, at-if1 .if1 .left)
+    omega (arith, end-inside _ (at-loop .loop .inv .inside) (at-line-end .line-end .ensures), at-line-end .line-end .ensures, at-if1 .if1 .left)
 
 loop-again : tie.Need-loop-again Inv-loop μ-loop
 loop-again c =

@@ -1,9 +1,9 @@
 -- Each field is read from its place, and the line's form says that it is there.
 use native.Mathlib.Omega.{arith}
 use Rattle.journal.specs.Lines.{count-in}
-use Rattle.opening.specs.CodeLaws.{shaped-run, told-line}
-use Rattle.opening.proofs.lines.told.Statement.{statement}
-use Rattle.opening.proofs.lines.told.Tie as tie
+use Rattle.opening.specs.CodeLaws.{shaped-run, fields-line}
+use Rattle.opening.proofs.lines.line_fields.Statement.{statement}
+use Rattle.opening.proofs.lines.line_fields.Tie as tie
 
 get-u8-requires : tie.Need-get-u8-requires
 unfolding count-in
@@ -51,10 +51,10 @@ returns c =
     let vote = at-vote .get-u83 .ensures in
     let kept = c .get-u16 .ensures in
     let count = at-count .get-u8 .ensures in
-    (told-line (entered .args .s .now) _ _ _ _ _ _ who term vote kept count (at-entries .entries .ensures) (entered .pre .few), omega (arith, count, entered .pre .few))
+    (fields-line (entered .args .s .now) _ _ _ _ _ _ who term vote kept count (at-entries .entries .ensures) (entered .pre .few), omega (arith, count, entered .pre .few))
 
-pub told-spec : {M : Type 1} → statement M
-told-spec =
+pub line-fields-spec : {M : Type 1} → statement M
+line-fields-spec =
     tie.close
     (tie.spec
     get-u8-requires
