@@ -145,6 +145,11 @@ abbrev pub Tells : Record → (bytes terms orders room : List ℕ) → Taken →
 Tells b bytes terms orders room answer terms' orders' room' =
     _≡_ {A = Telling} (record { answer = answer; terms = terms'; orders = orders'; room = room' }) (telling b bytes terms orders room)
 
+-- What was taken of a block and what is to be printed lie within what was lent.
+pub record Within (bytes room : List ℕ) (r : Taken) : Type 0 where
+  pub taken : r .taken ≤ length bytes
+  pub printed : r .bytes ≤ length room
+
 -- A text is put at a place of a room: the place behind it, and the room that holds it.
 pub record Puts (room : List ℕ) (at : ℕ) (text : List ℕ) (end : ℕ) (room' : List ℕ) : Type 0 where
   pub behind : end ≡ at + length text

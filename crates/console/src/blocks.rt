@@ -1,11 +1,12 @@
 // A block of lines, answered one behind the other.
+use crate::Answered;
 use crate::Taken;
 use crate::lines::answer_known;
 use record::Record;
 ghost use Prim.Native.Nat.{_≤_};
 ghost use lib.ListN.{length};
 ghost use Rattle.journal.specs.LongestLaws.{longest-messages};
-ghost use Rattle.console.specs.Calls.{Tells, Known};
+ghost use Rattle.console.specs.Calls.{Tells, Within, Known};
 
 // The lines one behind the other, at a record of which it is known whether it is good.
 fn answer_each(
@@ -21,15 +22,14 @@ fn answer_each(
     requires { ⌜ longest-messages ≤ length (now messages) ⌝ }
     ensures { λ r. ⌜ Tells n (now (bytes .entry)) (now (terms .entry)) (now (orders .entry)) (now (room .entry)) r
         (now (terms .exit)) (now (orders .exit)) (now (room .exit)) ⌝ }
-    ensures { λ r. ⌜ r .taken ≤ length (now (bytes .entry)) ⌝ }
-    ensures { λ r. ⌜ r .bytes ≤ length (now (room .entry)) ⌝ }
+    ensures { λ r. ⌜ Within (now (bytes .entry)) (now (room .entry)) r ⌝ }
 {
     let mut state = n;
     let mut at = 0;
     let mut to = 0;
     loop {
         let end = text::line_end(bytes, at);
-        if (end == at) | (room.len() - to < 905) {
+        if (end == at) | (room.len() - to < Answered::LONGEST) {
             return Taken {
                 state,
                 taken: at,
@@ -61,11 +61,9 @@ pub fn answer_lines(
 ) -> Taken
     ensures { λ r. ⌜ Tells n (now (bytes .entry)) (now (terms .entry)) (now (orders .entry)) (now (room .entry)) r
         (now (terms .exit)) (now (orders .exit)) (now (room .exit)) ⌝ }
-    ensures { λ r. ⌜ r .taken ≤ length (now (bytes .entry)) ⌝ }
-    ensures { λ r. ⌜ r .bytes ≤ length (now (room .entry)) ⌝ }
+    ensures { λ r. ⌜ Within (now (bytes .entry)) (now (room .entry)) r ⌝ }
 {
     let known = changes::is_good(n, &terms[..]);
-    // As in `answer`: room for six appends of four entries.
-    let mut messages = [0u8; 786];
+    let mut messages = [0u8; Answered::MESSAGES];
     answer_each(n, known, bytes, terms, orders, room, &mut messages)
 }

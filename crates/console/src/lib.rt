@@ -26,6 +26,14 @@ pub struct Answered {
     pub bytes: usize,
 }
 
+impl Answered {
+    // The longest answer: a journal line of 119 bytes and the longest messages.
+    pub const LONGEST: usize = 905;
+
+    // The longest messages: six appends of four entries. More room for them changes nothing that anyone sees.
+    pub const MESSAGES: usize = 786;
+}
+
 // What was made of a block of lines: the next box, how many bytes of whole lines were taken, and how many are to be printed.
 pub struct Taken {
     pub state: Record,

@@ -117,7 +117,7 @@ pub fn answer(
     ensures { λ r. ⌜ Says n (now (line .entry)) (now (terms .entry)) (now (orders .entry)) (now (room .entry)) r
         (now (terms .exit)) (now (orders .exit)) (now (room .exit)) ⌝ }
 {
-    if room.len() < 905 {
+    if room.len() < Answered::LONGEST {
         return Answered {
             fits: false,
             state: n,
@@ -125,8 +125,7 @@ pub fn answer(
         };
     }
     let known = changes::is_good(n, &terms[..]);
-    // Room for six appends of four entries; more of it changes nothing that anyone sees.
-    let mut messages = [0u8; 786];
+    let mut messages = [0u8; Answered::MESSAGES];
     answer_known(n, known, line, terms, orders, room, &mut messages)
 }
 
@@ -145,7 +144,7 @@ pub fn begin(line: &[u8], room: &mut [u8]) -> Begun
     ensures { λ r. ⌜ Begins (now (line .entry)) (now (room .entry)) r (now (room .exit)) ⌝ }
     ensures { λ r. ⌜ r .bytes ≤ length (now (room .entry)) ⌝ }
 {
-    if room.len() < 905 {
+    if room.len() < Answered::LONGEST {
         let none = events::start(0, 0, room);
         let state = none.state;
         return Begun {

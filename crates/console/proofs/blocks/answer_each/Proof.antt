@@ -2,15 +2,23 @@
 use borrow.Author.Needs.{needs}
 use native.Mathlib.Omega.{arith}
 use mathlib.Core.Path.{_≡_, refl}
-use Prim.Native.Nat.{_-_}
+use Prim.Native.Nat.{ℕ, _-_}
+use mathlib.Core.Bool.{Bool}
+use mathlib.Core.List.{List}
 use lib.ListN.{length}
+use Rattle.record.specs.declared.Record.{Record}
 use Rattle.console.specs.BlockLaws.{Reached, reached-first, end-inside, block-stops, block-goes, rest-wide, one-within, block-next}
 use Rattle.console.proofs.blocks.answer_each.Statement.{statement}
 use Rattle.console.proofs.blocks.answer_each.Tie as tie
 
+-- Where the loop is, and that the messages' room stays as long as it was.
+record Here (known : Bool) (n : Record) (bytes terms₀ orders₀ room₀ messages₀ : List ℕ) (b : Record) (at to : ℕ) (terms orders room messages : List ℕ) : Type 0 where
+  reached : Reached known n bytes terms₀ orders₀ room₀ b at to terms orders room
+  aside : length messages ≡ length messages₀
+
 abbrev Inv-loop : tie.InvT-loop
 Inv-loop known bytes terms₀ orders₀ room₀ messages₀ state₀ at₀ to₀ terms orders room messages state at to =
-    Reached known state₀ bytes terms₀ orders₀ room₀ state at to terms orders room × (length messages ≡ length messages₀)
+    Here known state₀ bytes terms₀ orders₀ room₀ messages₀ state at to terms orders room messages
 
 abbrev μ-loop : tie.MeasureT-loop
 μ-loop known bytes terms₀ orders₀ room₀ messages₀ state₀ at₀ to₀ terms orders room messages state at to = length bytes - at
@@ -18,15 +26,15 @@ abbrev μ-loop : tie.MeasureT-loop
 loop-holds : tie.Need-loop-holds Inv-loop μ-loop
 loop-holds c =
     let entered = c .before .before .before .before .before in
-    (reached-first (entered .pre .0), refl)
+    record { reached = reached-first (entered .pre .0); aside = refl }
 
 line-end-requires : tie.Need-line-end-requires Inv-loop μ-loop
-line-end-requires c κs = c .loop .inv .0 .inside
+line-end-requires c κs = c .loop .inv .reached .inside
 
 sub-if1 : tie.Need-sub-if1 Inv-loop μ-loop
 sub-if1 c =
     let at-loop = c .before in
-    omega (arith, at-loop .loop .inv .0 .within)
+    omega (arith, at-loop .loop .inv .reached .within)
 
 same-length : tie.Need-same-length Inv-loop μ-loop
 same-length c = search needs
@@ -37,7 +45,7 @@ same-length-2 c = search needs
 same-length-3 : tie.Need-same-length-3 Inv-loop μ-loop
 same-length-3 c =
     let at-loop = c .before .before in
-    at-loop .loop .inv .0 .long
+    at-loop .loop .inv .reached .long
 
 same-length-4 : tie.Need-same-length-4 Inv-loop μ-loop
 same-length-4 c = search needs
@@ -46,8 +54,8 @@ returns : tie.Need-returns Inv-loop μ-loop
 returns c =
     let at-line-end = c .before in
     let at-loop = at-line-end .before in
-    let here = at-loop .loop .inv .0 in
-    (block-stops here (at-line-end .line-end .ensures) (c .if1 .taken), (here .inside, omega (arith, here .within, here .long)))
+    let here = at-loop .loop .inv .reached in
+    (block-stops here (at-line-end .line-end .ensures) (c .if1 .taken), record { taken = here .inside; printed = omega (arith, here .within, here .long) })
 
 sub-answer-known : tie.Need-sub-answer-known Inv-loop μ-loop
 sub-answer-known c = search needs
@@ -59,7 +67,7 @@ part-answer-known-end : tie.Need-part-answer-known-end Inv-loop μ-loop
 part-answer-known-end c =
     let at-line-end = c .before in
     let at-loop = at-line-end .before in
-    end-inside (at-loop .loop .inv .0) (at-line-end .line-end .ensures)
+    end-inside (at-loop .loop .inv .reached) (at-line-end .line-end .ensures)
 
 sub-answer-known-2 : tie.Need-sub-answer-known-2 Inv-loop μ-loop
 sub-answer-known-2 c = search needs
@@ -76,8 +84,8 @@ answer-known-requires c κs =
     let at-line-end = at-if1 .before in
     let at-loop = at-line-end .before in
     let entered = at-loop .before .before .before .before .before .before in
-    let here = at-loop .loop .inv .0 in
-    (here .knows, record { answers = rest-wide here (at-line-end .line-end .ensures) (at-if1 .if1 .left); aside = omega (arith, entered .pre .1, at-loop .loop .inv .1) })
+    let here = at-loop .loop .inv .reached in
+    (here .knows, record { answers = rest-wide here (at-line-end .line-end .ensures) (at-if1 .if1 .left); aside = omega (arith, entered .pre .1, at-loop .loop .inv .aside) })
 
 add-to : tie.Need-add-to Inv-loop μ-loop
 add-to c =
@@ -86,7 +94,7 @@ add-to c =
     let at-line-end = at-if1 .before in
     let at-loop = at-line-end .before in
     let entered = at-loop .before .before .before .before .before .before in
-    let here = at-loop .loop .inv .0 in
+    let here = at-loop .loop .inv .reached in
     let within = one-within here (at-line-end .line-end .ensures) (at-if1 .if1 .left) (at-answer-known .answer-known .ensures .0) in
     omega (arith, within, here .long, entered .good)
 
@@ -95,7 +103,7 @@ loop-less c =
     let at-if1 = c .before .before .before .before .before .before .before .before .before .before .before .before .before .before .before .before in
     let at-line-end = at-if1 .before in
     let at-loop = at-line-end .before in
-    let here = at-loop .loop .inv .0 in
+    let here = at-loop .loop .inv .reached in
     omega (arith, block-goes here (at-line-end .line-end .ensures) (at-if1 .if1 .left) .further, end-inside here (at-line-end .line-end .ensures))
 
 loop-again : tie.Need-loop-again Inv-loop μ-loop
@@ -106,7 +114,10 @@ loop-again c =
     let at-loop = at-line-end .before in
     let one = at-answer-known .answer-known .ensures in
     let kept = at-answer-known .answer-known .kept .1 .1 .1 .1 .1 in
-    (block-next (at-loop .loop .inv .0) (at-line-end .line-end .ensures) (at-if1 .if1 .left) (one .0) (one .1) (kept .0), omega (arith, kept .1 .0, at-loop .loop .inv .1))
+    record {
+      reached = block-next (at-loop .loop .inv .reached) (at-line-end .line-end .ensures) (at-if1 .if1 .left) (one .0) (one .1) (kept .0);
+      aside = omega (arith, kept .1 .0, at-loop .loop .inv .aside);
+    }
 
 pub answer-each-spec : {M : Type 1} → statement M
 answer-each-spec =
