@@ -16,7 +16,6 @@ use Rattle.raft.specs.Record.{is-membership, fresh}
 use Rattle.raft.specs.Journal.{head}
 use Rattle.journal.specs.Lines.{box-in, mask-in, head-shaped}
 use Rattle.journal.specs.Opening.{is-head}
-use Rattle.record.specs.declared.Record.{Record}
 use Rattle.record.specs.declared.Started.{Started}
 use Rattle.record.specs.Calls.{record-of, begun}
 use Rattle.record.specs.Calls as calls
@@ -70,9 +69,13 @@ pub starts-none : (line room : List ℕ) → head-shaped line ≡ false → star
 unfolding starts
 starts-none line room h = rw h
 
-pub starts-head : (line room : List ℕ) → head-shaped line ≡ true → starts line room ≡ begun (box-in line) (mask-in line) room
+starts-head : (line room : List ℕ) → head-shaped line ≡ true → starts line room ≡ begun (box-in line) (mask-in line) room
 unfolding starts
 starts-head line room h = rw h
+
+pub starts-shaped : (line room : List ℕ) {me mask : ℕ} → head-shaped line ≡ true → me ≡ box-in line → mask ≡ mask-in line
+    → begun me mask room ≡ starts line room
+starts-shaped line room h e f = rw (starts-head line room h, e, f)
 
 -- with room for a head, it starts a box or it is 12
 abbrev started-by : List ℕ → List ℕ → calls.Begun

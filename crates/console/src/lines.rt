@@ -14,6 +14,7 @@ ghost use Rattle.record.specs.Calls.{state-of, Runs};
 ghost use Rattle.console.specs.Session as definition;
 ghost use Rattle.console.specs.Calls.{Starts, Begins, Says, Known, Roomy};
 
+// "`t` (timeout), `p` (prompt)": the letter and its line feed.
 fn is_letter(letter: u8, s: &[u8]) -> bool
     ensures { λ r. ⌜ r ≡ definition.is-letter letter (now (s .entry)) ⌝ }
 {
@@ -23,6 +24,7 @@ fn is_letter(letter: u8, s: &[u8]) -> bool
     (s[0] == letter) & (s[1] == 10)
 }
 
+// "`o` with 16 digits (order)"
 fn is_order(s: &[u8]) -> bool
     ensures { λ r. ⌜ r ≡ definition.is-order (now (s .entry)) ⌝ }
 {
@@ -35,6 +37,7 @@ fn is_order(s: &[u8]) -> bool
     frame_reader::is_line(&s[1..])
 }
 
+// Its order: the 16 digits behind the letter.
 fn order_in(s: &[u8]) -> u64
     requires { ⌜ definition.is-order (now s) ≡ true ⌝ }
     ensures { λ r. ⌜ r ≡ definition.order-in (now (s .entry)) ⌝ }

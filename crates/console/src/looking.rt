@@ -10,6 +10,7 @@ ghost use Rattle.record.specs.Calls.{state-of};
 ghost use Rattle.console.specs.Looking.{asks, asked-box, numbered, first-shown, log-shown, shown};
 ghost use Rattle.console.specs.Calls.{Puts, Showable};
 
+// "a first line with one digit, the box asked for"
 fn is_asking(s: &[u8]) -> bool
     ensures { λ r. ⌜ r ≡ asks (now (s .entry)) ⌝ }
 {

@@ -4,7 +4,7 @@ use mathlib.Core.Path.{sym, _∙_}
 use native.Mathlib.Omega.{arith}
 use borrow.Author.Tests.{not-true, not-false}
 use Rattle.journal.specs.Lines.{box-in, mask-in}
-use Rattle.console.specs.BeginLaws.{head-digits, starts-none, starts-head}
+use Rattle.console.specs.BeginLaws.{head-digits, starts-none, starts-shaped}
 use Rattle.console.proofs.lines.start.Statement.{statement}
 use Rattle.console.proofs.lines.start.Tie as tie
 
@@ -54,7 +54,8 @@ returns-2 c =
     let at-is-head-shaped = at-if1 .before in
     let entered = at-is-head-shaped .before .before .before in
     let shaped = sym (at-is-head-shaped .is-head-shaped .ensures) ∙ not-false _ (at-if1 .if1 .left) in
-    rw (starts-head (entered .args .line .now) (entered .args .room .now) shaped, ← at-get-u8 .get-u8 .ensures, ← at-get-u82 .get-u82 .ensures) (at-start2 .start2 .ensures)
+    let a = entered .args in
+    at-start2 .start2 .ensures ∙ starts-shaped (a .line .now) (a .room .now) shaped (at-get-u8 .get-u8 .ensures) (at-get-u82 .get-u82 .ensures)
 
 pub start-spec : {M : Type 1} → statement M
 start-spec =
