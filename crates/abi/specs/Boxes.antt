@@ -1,16 +1,15 @@
 -- A box as 22 numbers, for callers in C and Rust. Assumes nothing.
 use Prim.Native.Nat.{ℕ, _+_, _*_, _%_}
+use mathlib.Core.Path.{_≡_}
 use mathlib.Core.Bool.{Bool, cond, _&&_}
 use mathlib.Core.List.{List, [], _∷_}
 use lib.Dec.{eqb, ltb}
 use lib.ListN.{getD, set}
-use Rattle.record.specs.declared.Node.{Node}
-use Rattle.record.specs.declared.Step.{Step}
-use Rattle.record.specs.declared.Started.{Started}
-use Rattle.record.specs.declared.Handed.{Handed}
-use Rattle.raft.specs.Record.{State}
-use Rattle.raft.specs.Outcome.{Outcome}
-use Rattle.record.specs.Calls.{Called, call, Begun, begun, handed}
+use Rattle.record.specs.declared.Lead.{Lead}
+use Rattle.record.specs.declared.Record.{Record}
+use Rattle.node.specs.declared.Answer.{Answer}
+use Rattle.raft.specs.Event.{Event}
+use Rattle.record.specs.Calls.{Called, call, begun, handed}
 
 -- Each number fits the field that it is for.
 abbrev pub small : List ℕ → ℕ → Bool
@@ -22,8 +21,14 @@ box-range n =
     && ltb (getD n 6 0) 256 && ltb (getD n 7 0) 256 && small n 8 && small n 9 && small n 10 && small n 11 && small n 12 && small n 13
     && small n 14 && small n 15 && small n 16 && small n 17 && small n 18 && small n 19 && small n 20 && small n 21
 
+-- Seven numbers from a place on.
+abbrev pub seven-in : List ℕ → ℕ → List ℕ
+seven-in n at =
+    getD n at 0 % 65536 ∷ getD n (at + 1) 0 % 65536 ∷ getD n (at + 2) 0 % 65536 ∷ getD n (at + 3) 0 % 65536 ∷ getD n (at + 4) 0 % 65536
+    ∷ getD n (at + 5) 0 % 65536 ∷ getD n (at + 6) 0 % 65536 ∷ []
+
 -- The box that the numbers are. (The remainders change nothing where the numbers are in range.)
-unfoldable pub box-in : List ℕ → Node
+abbrev pub box-in : List ℕ → Record
 box-in n =
     record {
       me = getD n 0 0 % 256;
@@ -34,10 +39,7 @@ box-in n =
       commit = getD n 5 0 % 65536;
       role = getD n 6 0 % 256;
       votes = getD n 7 0 % 256;
-      next = getD n 8 0 % 65536 ∷ getD n 9 0 % 65536 ∷ getD n 10 0 % 65536 ∷ getD n 11 0 % 65536 ∷ getD n 12 0 % 65536
-          ∷ getD n 13 0 % 65536 ∷ getD n 14 0 % 65536 ∷ [];
-      matched = getD n 15 0 % 65536 ∷ getD n 16 0 % 65536 ∷ getD n 17 0 % 65536 ∷ getD n 18 0 % 65536 ∷ getD n 19 0 % 65536
-          ∷ getD n 20 0 % 65536 ∷ getD n 21 0 % 65536 ∷ [];
+      lead = record { next = seven-in n 8; matched = seven-in n 15 };
     }
 
 -- Seven numbers stored from a place on.
@@ -47,13 +49,13 @@ stored-7 n at list =
     (at + 4) (getD list 4 0)) (at + 5) (getD list 5 0)) (at + 6) (getD list 6 0)
 
 -- The numbers with the box stored in their places.
-unfoldable pub box-flat : Node → List ℕ → List ℕ
+abbrev pub lead-flat : Lead → List ℕ → List ℕ
+lead-flat l n = stored-7 (stored-7 n 8 (l .next)) 15 (l .matched)
+
+abbrev pub box-flat : Record → List ℕ → List ℕ
 box-flat b n =
-    stored-7
-    (stored-7
+    lead-flat (b .lead)
     (set (set (set (set (set (set (set (set n 0 (b .me)) 1 (b .members)) 2 (b .term)) 3 (b .vote)) 4 (b .last)) 5 (b .commit)) 6 (b .role)) 7 (b .votes))
-    8 (b .next))
-    15 (b .matched)
 
 -- What an event answers, and everything that was lent: on a refusal the numbers and the sizes are as they were.
 pub record BoxFlat : Type 0 where
@@ -65,25 +67,38 @@ pub record BoxFlat : Type 0 where
   pub room : List ℕ
   pub sizes : List ℕ
 
-abbrev pub sized-by : Step → List ℕ → List ℕ
-sized-by s sizes = set (set sizes 0 (s .line)) 1 (s .sent)
+abbrev pub sized-by : (line sent : ℕ) → List ℕ → List ℕ
+sized-by line sent sizes = set (set sizes 0 line) 1 sent
 
 abbrev pub flat-step : Called → List ℕ → List ℕ → BoxFlat
 flat-step c n sizes =
     record {
       refusal = c .answer .refusal;
-      numbers = cond (eqb (c .answer .refusal) 0) (box-flat (c .answer .node) n) n;
+      numbers = cond (eqb (c .answer .refusal) 0) (box-flat (c .answer .state) n) n;
       terms = c .terms;
       orders = c .orders;
       journal = c .journal;
-      room = c .room;
-      sizes = cond (eqb (c .answer .refusal) 0) (sized-by (c .answer) sizes) sizes;
+      room = c .messages;
+      sizes = cond (eqb (c .answer .refusal) 0) (sized-by (c .answer .line) (c .answer .sent) sizes) sizes;
     }
 
-unfoldable pub box-event : (State → Outcome) → List ℕ → List ℕ → List ℕ → List ℕ → List ℕ → List ℕ → BoxFlat
+unfoldable pub box-event : Event → List ℕ → List ℕ → List ℕ → List ℕ → List ℕ → List ℕ → BoxFlat
 box-event event n terms orders journal room sizes =
     cond (box-range n) (flat-step (call event (box-in n) terms orders journal room) n sizes)
     (record { refusal = 12; numbers = n; terms = terms; orders = orders; journal = journal; room = room; sizes = sizes })
+
+-- The answer's number as it is told, and the numbers and sizes as they are left.
+pub record Stores (a : Answer) (n sizes : List ℕ) (r : ℕ) (n' sizes' : List ℕ) : Type 0 where
+  pub number : r ≡ a .refusal
+  pub numbers : n' ≡ cond (eqb (a .refusal) 0) (box-flat (a .node .state) n) n
+  pub lengths : sizes' ≡ cond (eqb (a .refusal) 0) (sized-by (a .line) (a .sent) sizes) sizes
+
+-- As the contract says it: the lent things before, the answer, and the lent things behind it.
+abbrev pub Steps : Event → (n terms orders journal room sizes : List ℕ) → ℕ → (n' terms' orders' journal' room' sizes' : List ℕ) → Type 0
+Steps e n terms orders journal room sizes r n' terms' orders' journal' room' sizes' =
+    _≡_ {A = BoxFlat}
+    (record { refusal = r; numbers = n'; terms = terms'; orders = orders'; journal = journal'; room = room'; sizes = sizes' })
+    (box-event e n terms orders journal room sizes)
 
 -- A start: 01's number and 256 times the bytes of the head; the box's numbers where it is 0.
 pub record StartFlat : Type 0 where
@@ -95,9 +110,12 @@ unfoldable pub box-begun : ℕ → ℕ → List ℕ → List ℕ → StartFlat
 box-begun me mask n room =
     record {
       answer = begun me mask room .answer .refusal + 256 * begun me mask room .answer .bytes;
-      numbers = cond (eqb (begun me mask room .answer .refusal) 0) (box-flat (begun me mask room .answer .node) n) n;
-      room = begun me mask room .room;
+      numbers = cond (eqb (begun me mask room .answer .refusal) 0) (box-flat (begun me mask room .answer .state) n) n;
+      room = begun me mask room .journal;
     }
+
+abbrev pub Begins : (me mask : ℕ) (n room : List ℕ) → ℕ → (n' room' : List ℕ) → Type 0
+Begins me mask n room r n' room' = _≡_ {A = StartFlat} (record { answer = r; numbers = n'; room = room' }) (box-begun me mask n room)
 
 -- How many entries are handed out, stored, or 12.
 pub record HandedFlat : Type 0 where
@@ -112,3 +130,6 @@ box-handed n terms orders count =
       count = cond (eqb (handed (box-in n) terms orders .refusal) 0) (handed (box-in n) terms orders .count) count;
     })
     (record { refusal = 12; count = count })
+
+abbrev pub Hands : (n terms orders : List ℕ) (count : ℕ) → ℕ → (count' : ℕ) → Type 0
+Hands n terms orders count r count' = _≡_ {A = HandedFlat} (record { refusal = r; count = count' }) (box-handed n terms orders count)

@@ -1,14 +1,15 @@
 -- Opening a journal, for callers in C and Rust. Assumes nothing.
 use Prim.Native.Nat.{ℕ}
-use mathlib.Core.Path.{_≡_, refl}
-use mathlib.Core.Bool.{Bool, true, false, cond}
+use mathlib.Core.Path.{_≡_, sym, _∙_}
+use mathlib.Core.Bool.{Bool, true, false, not, cond}
 use mathlib.Core.List.{List}
 use lib.Dec.{eqb}
 use lib.ListN.{set}
-use Rattle.record.specs.declared.Node.{Node}
+use borrow.Author.Tests.{not-true, not-false}
+use Rattle.record.specs.declared.Record.{Record}
 use Rattle.opening.specs.declared.Opened.{Opened}
 use Rattle.opening.specs.declared.Replayed.{Replayed}
-use Rattle.opening.specs.Calls.{Replaying, replaying, Opens, opens}
+use Rattle.opening.specs.Calls.{Replaying, replaying, Replays, Opening, opens, Opens}
 use Rattle.abi.specs.Boxes.{box-range, box-in, box-flat}
 
 -- What opening answers, and everything that was lent: on a refusal the numbers are as they were.
@@ -23,11 +24,11 @@ pub record OpenFlat : Type 0 where
 abbrev pub sized-open : Opened → List ℕ → List ℕ
 sized-open o sizes = cond (eqb (o .refusal) 0) (set sizes 0 (o .bytes)) (cond (eqb (o .refusal) 10) (set sizes 1 (o .line)) sizes)
 
-abbrev pub flat-open : Opens → List ℕ → List ℕ → OpenFlat
+abbrev pub flat-open : Opening → List ℕ → List ℕ → OpenFlat
 flat-open o n sizes =
     record {
       refusal = o .answer .refusal;
-      numbers = cond (eqb (o .answer .refusal) 0) (box-flat (o .answer .node) n) n;
+      numbers = cond (eqb (o .answer .refusal) 0) (box-flat (o .answer .state) n) n;
       terms = o .terms;
       orders = o .orders;
       sizes = sized-open (o .answer) sizes;
@@ -35,6 +36,18 @@ flat-open o n sizes =
 
 unfoldable pub journal-opens : ℕ → List ℕ → List ℕ → List ℕ → List ℕ → List ℕ → OpenFlat
 journal-opens me bytes n terms orders sizes = flat-open (opens me bytes terms orders) n sizes
+
+-- As the contracts say it: the answer's number and what is stored of it; the lent things before, the answer, and the lent things behind it.
+pub record StoresOpen (o : Opened) (n sizes : List ℕ) (r : ℕ) (n' sizes' : List ℕ) : Type 0 where
+  pub number : r ≡ o .refusal
+  pub numbers : n' ≡ cond (eqb (o .refusal) 0) (box-flat (o .state) n) n
+  pub lengths : sizes' ≡ sized-open o sizes
+
+abbrev pub FlatOpens : (me : ℕ) (text n terms orders sizes : List ℕ) → ℕ → (n' terms' orders' sizes' : List ℕ) → Type 0
+FlatOpens me text n terms orders sizes r n' terms' orders' sizes' =
+    _≡_ {A = OpenFlat}
+    (record { refusal = r; numbers = n'; terms = terms'; orders = orders'; sizes = sizes' })
+    (journal-opens me text n terms orders sizes)
 
 -- The same of one line over the record that the numbers are; 12 where one of them does not fit its field.
 pub record ReplayFlat : Type 0 where
@@ -47,7 +60,7 @@ abbrev pub flat-replay : Replaying → List ℕ → ReplayFlat
 flat-replay o n =
     record {
       refusal = o .answer .refusal;
-      numbers = cond (eqb (o .answer .refusal) 0) (box-flat (o .answer .node) n) n;
+      numbers = cond (eqb (o .answer .refusal) 0) (box-flat (o .answer .state) n) n;
       terms = o .terms;
       orders = o .orders;
     }
@@ -57,23 +70,29 @@ journal-replays bytes n terms orders =
     cond (box-range n) (flat-replay (replaying (box-in n) bytes terms orders) n)
     (record { refusal = 12; numbers = n; terms = terms; orders = orders })
 
+pub record StoresReplay (o : Replayed) (n : List ℕ) (r : ℕ) (n' : List ℕ) : Type 0 where
+  pub number : r ≡ o .refusal
+  pub numbers : n' ≡ cond (eqb (o .refusal) 0) (box-flat (o .state) n) n
+
+abbrev pub FlatReplays : (text n terms orders : List ℕ) → ℕ → (n' terms' orders' : List ℕ) → Type 0
+FlatReplays text n terms orders r n' terms' orders' =
+    _≡_ {A = ReplayFlat} (record { refusal = r; numbers = n'; terms = terms'; orders = orders' }) (journal-replays text n terms orders)
+
 -- ---- what the code comes to
 
-pub opens-flat : (me : ℕ) (bytes n terms orders sizes : List ℕ) (o : Opened) {n' terms' orders' sizes' : List ℕ} {r : ℕ}
-    → _≡_ {A = Opens} (record { answer = o; terms = terms'; orders = orders' }) (opens me bytes terms orders) → r ≡ o .refusal
-    → n' ≡ cond (eqb (o .refusal) 0) (box-flat (o .node) n) n → sizes' ≡ sized-open o sizes
-    → record { refusal = r; numbers = n'; terms = terms'; orders = orders'; sizes = sizes' } ≡ journal-opens me bytes n terms orders sizes
+pub opens-flat : (me : ℕ) (text n terms orders sizes : List ℕ) (o : Opened) {r : ℕ} {n' terms' orders' sizes' : List ℕ}
+    → Opens me text terms orders o terms' orders' → StoresOpen o n sizes r n' sizes'
+    → FlatOpens me text n terms orders sizes r n' terms' orders' sizes'
 unfolding journal-opens
-opens-flat me bytes n terms orders sizes o e f g h = rw (← e, f, g, h)
+opens-flat me text n terms orders sizes o e s = rw (← e, s .number, s .numbers, s .lengths)
 
-module _ (bytes n terms orders : List ℕ) where
-  pub replays-none : box-range n ≡ false → record { refusal = 12; numbers = n; terms = terms; orders = orders } ≡ journal-replays bytes n terms orders
+module _ (text n terms orders : List ℕ) {fits : Bool} (t : fits ≡ box-range n) where
+  -- numbers that do not fit are no record
+  pub replays-none : not fits ≡ true → FlatReplays text n terms orders 12 n terms orders
   unfolding journal-replays
-  replays-none h = rw h
+  replays-none h = rw (sym t ∙ not-true fits h)
 
-  pub replays-flat : box-range n ≡ true → (b : Node) (o : Replayed) {n' terms' orders' : List ℕ} {r : ℕ} → b ≡ box-in n
-      → _≡_ {A = Replaying} (record { answer = o; terms = terms'; orders = orders' }) (replaying b bytes terms orders) → r ≡ o .refusal
-      → n' ≡ cond (eqb (o .refusal) 0) (box-flat (o .node) n) n
-      → record { refusal = r; numbers = n'; terms = terms'; orders = orders' } ≡ journal-replays bytes n terms orders
+  pub replays-flat : {r : ℕ} {n' terms' orders' : List ℕ} → not fits ≡ false → (b : Record) (o : Replayed) → b ≡ box-in n
+      → Replays b text terms orders o terms' orders' → StoresReplay o n r n' → FlatReplays text n terms orders r n' terms' orders'
   unfolding journal-replays
-  replays-flat h b o e f g k = rw (h, ← e, ← f, g, k)
+  replays-flat h b o i e s = rw (sym t ∙ not-false fits h, ← i, ← e, s .number, s .numbers)

@@ -1,15 +1,12 @@
 // A box for C and Rust, as 22 numbers: me, members, term, vote, last, commit, role, votes, then next and then match of the seven boxes.
-use record::Node;
-use record::Step;
+use node::Answer;
+use node::Node;
+use record::Lead;
+use record::Record;
 ghost use mathlib.Core.Path.{_≡_};
-ghost use mathlib.Core.Bool.{cond};
 ghost use Prim.Native.Nat.{_≤_};
-ghost use lib.Dec.{eqb};
-ghost use Rattle.raft.specs.Timeout.{timeout};
-ghost use Rattle.raft.specs.Prompt.{prompt};
-ghost use Rattle.raft.specs.Order.{order as ordering};
-ghost use Rattle.raft.specs.Receive.{receive as receiving};
-ghost use Rattle.abi.specs.Boxes.{box-range, box-in, stored-7, box-flat, sized-by, BoxFlat, box-event, StartFlat, box-begun, HandedFlat, box-handed};
+ghost use Rattle.raft.specs.Event.{times-out, takes-order, is-prompted, receives};
+ghost use Rattle.abi.specs.Boxes.{box-range, box-in, stored-7, lead-flat, box-flat, Stores, Steps, Begins, Hands};
 
 // Each number fits the field that it is for.
 pub fn box_range(n: &[u64; 22]) -> bool
@@ -39,8 +36,8 @@ pub fn box_range(n: &[u64; 22]) -> bool
         & (n[21] < 65536)
 }
 
-// The box that the numbers are.
-pub fn box_in(n: &[u64; 22]) -> Node
+// The box that the numbers are. (The remainders change nothing where the numbers are in range.)
+pub fn box_in(n: &[u64; 22]) -> Record
     ensures { λ r. ⌜ r ≡ box-in (now (n .entry)) ⌝ }
 {
     let next = [
@@ -61,7 +58,8 @@ pub fn box_in(n: &[u64; 22]) -> Node
         (n[20] % 65536) as u16,
         (n[21] % 65536) as u16,
     ];
-    Node {
+    let lead = Lead { next, matched };
+    Record {
         me: (n[0] % 256) as u8,
         members: (n[1] % 256) as u8,
         term: (n[2] % 4294967296) as u32,
@@ -70,173 +68,188 @@ pub fn box_in(n: &[u64; 22]) -> Node
         commit: (n[5] % 65536) as u16,
         role: (n[6] % 256) as u8,
         votes: (n[7] % 256) as u8,
-        next,
-        matched,
+        lead,
     }
 }
 
-fn wide(n: u16) -> u64
-    ensures { λ r. ⌜ r ≡ n ⌝ }
-{
-    n as u64
-}
-
 // Stores seven numbers from a place on.
-fn put_seven(n: &mut [u64; 22], at: usize, list: [u16; 7])
+fn put_seven(n: &mut [u64; 22], at: usize, list: [u16; Record::BOXES])
     requires { ⌜ at ≤ 15 ⌝ }
     ensures { λ _. ⌜ now (n .exit) ≡ stored-7 (now (n .entry)) at list ⌝ }
 {
-    n[at] = wide(list[0]);
-    n[at + 1] = wide(list[1]);
-    n[at + 2] = wide(list[2]);
-    n[at + 3] = wide(list[3]);
-    n[at + 4] = wide(list[4]);
-    n[at + 5] = wide(list[5]);
-    n[at + 6] = wide(list[6]);
+    n[at] = list[0] as u64;
+    n[at + 1] = list[1] as u64;
+    n[at + 2] = list[2] as u64;
+    n[at + 3] = list[3] as u64;
+    n[at + 4] = list[4] as u64;
+    n[at + 5] = list[5] as u64;
+    n[at + 6] = list[6] as u64;
 }
 
-// Stores the box's numbers.
-pub fn put_box(n: &mut [u64; 22], b: Node)
-    ensures { λ _. ⌜ now (n .exit) ≡ box-flat b (now (n .entry)) ⌝ }
+// Stores next and match.
+fn put_lead(n: &mut [u64; 22], lead: Lead)
+    ensures { λ _. ⌜ now (n .exit) ≡ lead-flat lead (now (n .entry)) ⌝ }
 {
-    let next = b.next;
-    let matched = b.matched;
-    n[0] = b.me as u64;
-    n[1] = b.members as u64;
-    n[2] = b.term as u64;
-    n[3] = b.vote as u64;
-    n[4] = wide(b.last);
-    n[5] = wide(b.commit);
-    n[6] = b.role as u64;
-    n[7] = b.votes as u64;
+    let next = lead.next;
+    let matched = lead.matched;
     put_seven(n, 8, next);
     put_seven(n, 15, matched);
 }
 
-// The answer's number; where it is 0, the next box's numbers and the sizes are stored.
-fn put_step(n: &mut [u64; 22], sizes: &mut [u64; 2], s: Step) -> u8
-    ensures { λ r. ⌜ r ≡ s .refusal ⌝ }
-    ensures { λ _. ⌜ now (n .exit) ≡ cond (eqb (s .refusal) 0) (box-flat (s .node) (now (n .entry))) (now (n .entry)) ⌝ }
-    ensures { λ _. ⌜ now (sizes .exit) ≡ cond (eqb (s .refusal) 0) (sized-by s (now (sizes .entry))) (now (sizes .entry)) ⌝ }
+// Stores the box's numbers.
+pub fn put_box(n: &mut [u64; 22], b: Record)
+    ensures { λ _. ⌜ now (n .exit) ≡ box-flat b (now (n .entry)) ⌝ }
 {
-    let refusal = s.refusal;
+    let lead = b.lead;
+    n[0] = b.me as u64;
+    n[1] = b.members as u64;
+    n[2] = b.term as u64;
+    n[3] = b.vote as u64;
+    n[4] = b.last as u64;
+    n[5] = b.commit as u64;
+    n[6] = b.role as u64;
+    n[7] = b.votes as u64;
+    put_lead(n, lead);
+}
+
+// The answer's number; where it is 0, the next box's numbers and the sizes are stored.
+fn put_answer(n: &mut [u64; 22], sizes: &mut [u64; 2], a: Answer) -> u8
+    ensures { λ r. ⌜ Stores a (now (n .entry)) (now (sizes .entry)) r (now (n .exit)) (now (sizes .exit)) ⌝ }
+{
+    let refusal = a.refusal;
     if refusal == 0 {
-        let b = s.node;
-        put_box(n, b);
-        sizes[0] = s.line as u64;
-        sizes[1] = s.sent as u64;
+        let b = a.node;
+        let state = b.state;
+        put_box(n, state);
+        sizes[0] = a.line as u64;
+        sizes[1] = a.sent as u64;
         return 0;
     }
     refusal
 }
 
+// Each event: 12 where a number does not fit its field; otherwise the box's answer, stored. First the timeout.
 #[no_mangle]
 pub extern "C" fn box_timeout(
     n: &mut [u64; 22],
-    terms: &[u32; 256],
-    orders: &[u64; 256],
+    terms: &[u32; Record::LOG],
+    orders: &[u64; Record::LOG],
     journal: &mut [u8],
     room: &mut [u8],
     sizes: &mut [u64; 2],
 ) -> u8
-    ensures { λ r. ⌜ _≡_ {A = BoxFlat} (record { refusal = r; numbers = now (n .exit); terms = now (terms .entry); orders = now (orders .entry); journal = now (journal .exit); room = now (room .exit); sizes = now (sizes .exit) }) (box-event timeout (now (n .entry)) (now (terms .entry)) (now (orders .entry)) (now (journal .entry)) (now (room .entry)) (now (sizes .entry))) ⌝ }
+    ensures { λ r. ⌜ Steps times-out (now (n .entry)) (now (terms .entry)) (now (orders .entry)) (now (journal .entry)) (now (room .entry)) (now (sizes .entry)) r
+        (now (n .exit)) (now (terms .entry)) (now (orders .entry)) (now (journal .exit)) (now (room .exit)) (now (sizes .exit)) ⌝ }
 {
     if !box_range(n) {
         return 12;
     }
-    let b = box_in(n);
-    let step = node::timeout(b, terms, orders, journal, room);
-    put_step(n, sizes, step)
+    let state = box_in(n);
+    let b = Node { state };
+    let answer = b.timeout(terms, orders, journal, room);
+    put_answer(n, sizes, answer)
 }
 
+// A prompt.
 #[no_mangle]
 pub extern "C" fn box_prompt(
     n: &mut [u64; 22],
-    terms: &[u32; 256],
-    orders: &[u64; 256],
+    terms: &[u32; Record::LOG],
+    orders: &[u64; Record::LOG],
     journal: &mut [u8],
     room: &mut [u8],
     sizes: &mut [u64; 2],
 ) -> u8
-    ensures { λ r. ⌜ _≡_ {A = BoxFlat} (record { refusal = r; numbers = now (n .exit); terms = now (terms .entry); orders = now (orders .entry); journal = now (journal .exit); room = now (room .exit); sizes = now (sizes .exit) }) (box-event prompt (now (n .entry)) (now (terms .entry)) (now (orders .entry)) (now (journal .entry)) (now (room .entry)) (now (sizes .entry))) ⌝ }
+    ensures { λ r. ⌜ Steps is-prompted (now (n .entry)) (now (terms .entry)) (now (orders .entry)) (now (journal .entry)) (now (room .entry)) (now (sizes .entry)) r
+        (now (n .exit)) (now (terms .entry)) (now (orders .entry)) (now (journal .exit)) (now (room .exit)) (now (sizes .exit)) ⌝ }
 {
     if !box_range(n) {
         return 12;
     }
-    let b = box_in(n);
-    let step = node::prompt(b, terms, orders, journal, room);
-    put_step(n, sizes, step)
+    let state = box_in(n);
+    let b = Node { state };
+    let answer = b.prompt(terms, orders, journal, room);
+    put_answer(n, sizes, answer)
 }
 
+// An order.
 #[no_mangle]
 pub extern "C" fn box_order(
     order: u64,
     n: &mut [u64; 22],
-    terms: &mut [u32; 256],
-    orders: &mut [u64; 256],
+    terms: &mut [u32; Record::LOG],
+    orders: &mut [u64; Record::LOG],
     journal: &mut [u8],
     room: &mut [u8],
     sizes: &mut [u64; 2],
 ) -> u8
-    ensures { λ r. ⌜ _≡_ {A = BoxFlat} (record { refusal = r; numbers = now (n .exit); terms = now (terms .exit); orders = now (orders .exit); journal = now (journal .exit); room = now (room .exit); sizes = now (sizes .exit) }) (box-event (ordering order) (now (n .entry)) (now (terms .entry)) (now (orders .entry)) (now (journal .entry)) (now (room .entry)) (now (sizes .entry))) ⌝ }
+    ensures { λ r. ⌜ Steps (takes-order order) (now (n .entry)) (now (terms .entry)) (now (orders .entry)) (now (journal .entry)) (now (room .entry)) (now (sizes .entry)) r
+        (now (n .exit)) (now (terms .exit)) (now (orders .exit)) (now (journal .exit)) (now (room .exit)) (now (sizes .exit)) ⌝ }
 {
     if !box_range(n) {
         return 12;
     }
-    let b = box_in(n);
-    let step = node::order(b, order, terms, orders, journal, room);
-    put_step(n, sizes, step)
+    let state = box_in(n);
+    let b = Node { state };
+    let answer = b.order(order, terms, orders, journal, room);
+    put_answer(n, sizes, answer)
 }
 
+// Bytes that came in.
 #[no_mangle]
 pub extern "C" fn box_receive(
     text: &[u8],
     n: &mut [u64; 22],
-    terms: &mut [u32; 256],
-    orders: &mut [u64; 256],
+    terms: &mut [u32; Record::LOG],
+    orders: &mut [u64; Record::LOG],
     journal: &mut [u8],
     room: &mut [u8],
     sizes: &mut [u64; 2],
 ) -> u8
-    ensures { λ r. ⌜ _≡_ {A = BoxFlat} (record { refusal = r; numbers = now (n .exit); terms = now (terms .exit); orders = now (orders .exit); journal = now (journal .exit); room = now (room .exit); sizes = now (sizes .exit) }) (box-event (receiving (now (text .entry))) (now (n .entry)) (now (terms .entry)) (now (orders .entry)) (now (journal .entry)) (now (room .entry)) (now (sizes .entry))) ⌝ }
+    ensures { λ r. ⌜ Steps (receives (now (text .entry))) (now (n .entry)) (now (terms .entry)) (now (orders .entry)) (now (journal .entry)) (now (room .entry)) (now (sizes .entry)) r
+        (now (n .exit)) (now (terms .exit)) (now (orders .exit)) (now (journal .exit)) (now (room .exit)) (now (sizes .exit)) ⌝ }
 {
     if !box_range(n) {
         return 12;
     }
-    let b = box_in(n);
-    let step = node::receive(b, text, terms, orders, journal, room);
-    put_step(n, sizes, step)
+    let state = box_in(n);
+    let b = Node { state };
+    let answer = b.receive(text, terms, orders, journal, room);
+    put_answer(n, sizes, answer)
 }
 
 // A start: 01's number and 256 times the bytes of the head.
 #[no_mangle]
 pub extern "C" fn box_start(me: u8, mask: u8, n: &mut [u64; 22], room: &mut [u8]) -> u64
-    ensures { λ r. ⌜ _≡_ {A = StartFlat} (record { answer = r; numbers = now (n .exit); room = now (room .exit) }) (box-begun me mask (now (n .entry)) (now (room .entry))) ⌝ }
+    ensures { λ r. ⌜ Begins me mask (now (n .entry)) (now (room .entry)) r (now (n .exit)) (now (room .exit)) ⌝ }
 {
-    let started = node::start(me, mask, room);
+    let started = Node::start(me, mask, room);
     let refusal = started.refusal;
     if refusal == 0 {
         let b = started.node;
-        put_box(n, b);
+        let state = b.state;
+        put_box(n, state);
         return 256 * 9;
     }
     refusal as u64
 }
 
+// How many entries are handed out, stored where the answer is 0.
 #[no_mangle]
 pub extern "C" fn box_handed_out(
     n: &[u64; 22],
-    terms: &[u32; 256],
-    orders: &[u64; 256],
+    terms: &[u32; Record::LOG],
+    orders: &[u64; Record::LOG],
     count: &mut u64,
 ) -> u8
-    ensures { λ r. ⌜ _≡_ {A = HandedFlat} (record { refusal = r; count = now (count .exit) }) (box-handed (now (n .entry)) (now (terms .entry)) (now (orders .entry)) (now (count .entry))) ⌝ }
+    ensures { λ r. ⌜ Hands (now (n .entry)) (now (terms .entry)) (now (orders .entry)) (now (count .entry)) r (now (count .exit)) ⌝ }
 {
     if !box_range(n) {
         return 12;
     }
-    let b = box_in(n);
-    let handed = node::handed_out(b, terms, orders);
+    let state = box_in(n);
+    let b = Node { state };
+    let handed = b.handed_out(terms, orders);
     let refusal = handed.refusal;
     if refusal == 0 {
         *count = handed.count as u64;

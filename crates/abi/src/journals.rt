@@ -4,22 +4,17 @@ use crate::boxes::box_range;
 use crate::boxes::put_box;
 use opening::Opened;
 use opening::Replayed;
-ghost use mathlib.Core.Path.{_≡_};
-ghost use mathlib.Core.Bool.{cond};
-ghost use lib.Dec.{eqb};
-ghost use Rattle.abi.specs.Boxes.{box-flat};
-ghost use Rattle.abi.specs.Journals.{sized-open, OpenFlat, journal-opens, ReplayFlat, journal-replays};
+use record::Record;
+ghost use Rattle.abi.specs.Journals.{StoresOpen, FlatOpens, StoresReplay, FlatReplays};
 
 // The answer's number; where it is 0, the record's numbers and the bytes are stored, where it is 10, the line's number.
 fn put_opened(n: &mut [u64; 22], sizes: &mut [u64; 2], o: Opened) -> u8
-    ensures { λ r. ⌜ r ≡ o .refusal ⌝ }
-    ensures { λ _. ⌜ now (n .exit) ≡ cond (eqb (o .refusal) 0) (box-flat (o .node) (now (n .entry))) (now (n .entry)) ⌝ }
-    ensures { λ _. ⌜ now (sizes .exit) ≡ sized-open o (now (sizes .entry)) ⌝ }
+    ensures { λ r. ⌜ StoresOpen o (now (n .entry)) (now (sizes .entry)) r (now (n .exit)) (now (sizes .exit)) ⌝ }
 {
     let refusal = o.refusal;
     if refusal == 0 {
-        let b = o.node;
-        put_box(n, b);
+        let state = o.state;
+        put_box(n, state);
         sizes[0] = o.bytes as u64;
         return 0;
     }
@@ -30,47 +25,51 @@ fn put_opened(n: &mut [u64; 22], sizes: &mut [u64; 2], o: Opened) -> u8
     refusal
 }
 
+// Opens a whole journal.
 #[no_mangle]
 pub extern "C" fn journal_open(
     me: u8,
     text: &[u8],
     n: &mut [u64; 22],
-    terms: &mut [u32; 256],
-    orders: &mut [u64; 256],
+    terms: &mut [u32; Record::LOG],
+    orders: &mut [u64; Record::LOG],
     sizes: &mut [u64; 2],
 ) -> u8
-    ensures { λ r. ⌜ _≡_ {A = OpenFlat} (record { refusal = r; numbers = now (n .exit); terms = now (terms .exit); orders = now (orders .exit); sizes = now (sizes .exit) }) (journal-opens me (now (text .entry)) (now (n .entry)) (now (terms .entry)) (now (orders .entry)) (now (sizes .entry))) ⌝ }
+    ensures { λ r. ⌜ FlatOpens me (now (text .entry)) (now (n .entry)) (now (terms .entry)) (now (orders .entry)) (now (sizes .entry)) r
+        (now (n .exit)) (now (terms .exit)) (now (orders .exit)) (now (sizes .exit)) ⌝ }
 {
     let opened = opening::open(me, text, terms, orders);
     put_opened(n, sizes, opened)
 }
 
+// The answer's number; where it is 0, the record's numbers are stored.
 fn put_replayed(n: &mut [u64; 22], o: Replayed) -> u8
-    ensures { λ r. ⌜ r ≡ o .refusal ⌝ }
-    ensures { λ _. ⌜ now (n .exit) ≡ cond (eqb (o .refusal) 0) (box-flat (o .node) (now (n .entry))) (now (n .entry)) ⌝ }
+    ensures { λ r. ⌜ StoresReplay o (now (n .entry)) r (now (n .exit)) ⌝ }
 {
     let refusal = o.refusal;
     if refusal == 0 {
-        let b = o.node;
-        put_box(n, b);
+        let state = o.state;
+        put_box(n, state);
         return 0;
     }
     refusal
 }
 
+// Replays one whole line, with its line feed, over the record that the numbers are; 12 where one does not fit its field.
 #[no_mangle]
 pub extern "C" fn journal_replay(
     text: &[u8],
     n: &mut [u64; 22],
-    terms: &mut [u32; 256],
-    orders: &mut [u64; 256],
+    terms: &mut [u32; Record::LOG],
+    orders: &mut [u64; Record::LOG],
 ) -> u8
-    ensures { λ r. ⌜ _≡_ {A = ReplayFlat} (record { refusal = r; numbers = now (n .exit); terms = now (terms .exit); orders = now (orders .exit) }) (journal-replays (now (text .entry)) (now (n .entry)) (now (terms .entry)) (now (orders .entry))) ⌝ }
+    ensures { λ r. ⌜ FlatReplays (now (text .entry)) (now (n .entry)) (now (terms .entry)) (now (orders .entry)) r
+        (now (n .exit)) (now (terms .exit)) (now (orders .exit)) ⌝ }
 {
     if !box_range(n) {
         return 12;
     }
-    let b = box_in(n);
-    let replayed = opening::replay(b, text, terms, orders);
+    let state = box_in(n);
+    let replayed = opening::replay(state, text, terms, orders);
     put_replayed(n, replayed)
 }

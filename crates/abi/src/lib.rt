@@ -16,7 +16,7 @@ use frames::Fields;
 pub use journals::journal_open;
 pub use journals::journal_replay;
 ghost use mathlib.Core.Path.{_≡_};
-ghost use Rattle.abi.specs.Flat.{in-range, fields-in, flat, ReadFlat, read-flat, WroteFlat, write-flat};
+ghost use Rattle.abi.specs.Flat.{in-range, fields-in, flat, Reads, Writes};
 
 // Stores the fields' 17 numbers.
 fn put_flat(numbers: &mut [u64; 17], f: Fields)
@@ -102,7 +102,7 @@ fn fields_in(n: &[u64; 17]) -> Fields
 // frame_reader::read: 0 and the 17 numbers, or 1 and the numbers as they were.
 #[no_mangle]
 pub extern "C" fn frame_read(text: &[u8], numbers: &mut [u64; 17]) -> u8
-    ensures { λ r. ⌜ _≡_ {A = ReadFlat} (record { refusal = r; numbers = now (numbers .exit) }) (read-flat (now (text .entry)) (now (numbers .entry))) ⌝ }
+    ensures { λ r. ⌜ Reads (now (text .entry)) (now (numbers .entry)) r (now (numbers .exit)) ⌝ }
 {
     let parsed = frame_reader::read(text);
     let refusal = parsed.refusal;
@@ -117,7 +117,7 @@ pub extern "C" fn frame_read(text: &[u8], numbers: &mut [u64; 17]) -> u8
 // frame_writer::write of the fields that the numbers are: 0, 1 or 5.
 #[no_mangle]
 pub extern "C" fn frame_write(numbers: &[u64; 17], room: &mut [u8]) -> u8
-    ensures { λ r. ⌜ _≡_ {A = WroteFlat} (record { refusal = r; room = now (room .exit) }) (write-flat (now (numbers .entry)) (now (room .entry))) ⌝ }
+    ensures { λ r. ⌜ Writes (now (numbers .entry)) (now (room .entry)) r (now (room .exit)) ⌝ }
 {
     if !in_range(numbers) {
         return 1;

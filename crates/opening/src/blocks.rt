@@ -2,7 +2,7 @@
 use crate::Block;
 use crate::Replayed;
 use crate::lines::head_mask;
-use crate::whole::replay;
+use crate::whole::replay_line;
 use changes::fresh;
 use record::Record;
 use text::line_end;
@@ -47,7 +47,7 @@ pub fn replay_lines(
                 lines,
             };
         }
-        let one = replay(state, &bytes[at..end], terms, orders);
+        let one = replay_line(state, &bytes[at..end], terms, orders);
         if one.refusal != 0 {
             return Block {
                 refusal: 10,

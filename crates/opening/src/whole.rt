@@ -41,8 +41,8 @@ fn after(n: Record, l: LineFields) -> Record
     following(r)
 }
 
-// One whole line, with its line feed, over any record: for journals that are longer than memory.
-pub fn replay(n: Record, line: &[u8], terms: &mut [u32], orders: &mut [u64]) -> Replayed
+// One whole line, with its line feed, over any record.
+pub fn replay_line(n: Record, line: &[u8], terms: &mut [u32], orders: &mut [u64]) -> Replayed
     requires { ⌜ LentLog (now terms) (now orders) ⌝ }
     ensures { λ r. ⌜ Replays n (now (line .entry)) (now (terms .entry)) (now (orders .entry)) r (now (terms .exit)) (now (orders .exit)) ⌝ }
 {
@@ -60,6 +60,18 @@ pub fn replay(n: Record, line: &[u8], terms: &mut [u32], orders: &mut [u64]) -> 
     rules::store(terms, orders, l.kept as usize, entries, 0, l.count as usize);
     let state = after(n, l);
     Replayed { refusal: 0, state }
+}
+
+// The same from outside, for journals that are longer than memory.
+pub fn replay(
+    n: Record,
+    line: &[u8],
+    terms: &mut [u32; Record::LOG],
+    orders: &mut [u64; Record::LOG],
+) -> Replayed
+    ensures { λ r. ⌜ Replays n (now (line .entry)) (now (terms .entry)) (now (orders .entry)) r (now (terms .exit)) (now (orders .exit)) ⌝ }
+{
+    replay_line(n, line, terms, orders)
 }
 
 fn refused(number: u8, line: usize) -> Opened
@@ -98,7 +110,7 @@ fn replay_all(
                 line: 0,
             };
         }
-        let one = replay(state, &bytes[at..end], terms, orders);
+        let one = replay_line(state, &bytes[at..end], terms, orders);
         if one.refusal != 0 {
             return refused(10, number);
         }

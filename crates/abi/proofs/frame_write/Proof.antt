@@ -1,8 +1,6 @@
 -- Numbers in range are the fields, and the writer answers for them.
 use borrow.Author.Needs.{needs}
-use mathlib.Core.Path.{sym, _∙_}
-use borrow.Author.Tests.{not-true, not-false}
-use Rattle.abi.specs.Flat.{write-flat}
+use Rattle.abi.specs.FlatLaws.{write-nothing, write-fields}
 use Rattle.abi.proofs.frame_write.Statement.{statement}
 use Rattle.abi.proofs.frame_write.Tie as tie
 
@@ -10,8 +8,11 @@ in-range-requires : tie.Need-in-range-requires
 in-range-requires c κs = search needs
 
 returns : tie.Need-returns
-unfolding write-flat
-returns c = rw (sym (c .before .in-range .ensures) ∙ not-true _ (c .if1 .taken))
+returns c =
+    let at-in-range = c .before in
+    let entered = at-in-range .before .before in
+    let lent = entered .args in
+    write-nothing (lent .numbers .now) (lent .room .now) (at-in-range .in-range .ensures) (c .if1 .taken)
 
 fields-in-requires : tie.Need-fields-in-requires
 fields-in-requires c κs = search needs
@@ -23,10 +24,15 @@ same-length : tie.Need-same-length
 same-length c = search needs
 
 returns-2 : tie.Need-returns-2
-unfolding write-flat
 returns-2 c =
-    rw (sym (c .before .before .before .before .before .before .in-range .ensures) ∙ not-false _ (c .before .before .before .before .before .if1 .left), ← c .before .before .before .before .fields-in .ensures)
-    (λ d. record { refusal = c .before .before .write .ensures d .answer .refusal; room = c .before .before .write .ensures d .room })
+    let at-write = c .before .before in
+    let at-fields-in = at-write .before .before in
+    let at-if1 = at-fields-in .before in
+    let at-in-range = at-if1 .before in
+    let entered = at-in-range .before .before in
+    let lent = entered .args in
+    write-fields (lent .numbers .now) (lent .room .now) (at-in-range .in-range .ensures) (at-if1 .if1 .left)
+    (at-fields-in .fields-in .result) (at-write .write .result) (at-fields-in .fields-in .ensures) (at-write .write .ensures)
 
 pub frame-write-spec : {M : Type 1} → statement M
 frame-write-spec =

@@ -1,8 +1,6 @@
--- 12 where a number does not fit; otherwise the event's answer, stored.
+-- 12 where a number does not fit; otherwise the box's answer, stored.
 use borrow.Author.Needs.{needs}
-use mathlib.Core.Path.{sym, _∙_}
-use borrow.Author.Tests.{not-true, not-false}
-use Rattle.raft.specs.Prompt.{prompt}
+use Rattle.raft.specs.Event.{is-prompted}
 use Rattle.abi.specs.BoxLaws.{event-none, event-step}
 use Rattle.abi.proofs.boxes.box_prompt.Statement.{statement}
 use Rattle.abi.proofs.boxes.box_prompt.Tie as tie
@@ -11,7 +9,12 @@ box-range-requires : tie.Need-box-range-requires
 box-range-requires c κs = search needs
 
 returns : tie.Need-returns
-returns c = event-none prompt (c .before .before .before .before .before .args .n .now) (c .before .before .before .before .before .args .terms .now) (c .before .before .before .before .before .args .orders .now) (c .before .before .before .before .before .args .journal .now) (c .before .before .before .before .before .args .room .now) (c .before .before .before .before .before .args .sizes .now) (sym (c .before .box-range .ensures) ∙ not-true _ (c .if1 .taken))
+returns c =
+    let at-box-range = c .before in
+    let entered = at-box-range .before .before .before .before in
+    let lent = entered .args in
+    event-none is-prompted (lent .n .now) (lent .terms .now) (lent .orders .now) (lent .journal .now) (lent .room .now) (lent .sizes .now)
+    (at-box-range .box-range .ensures) (c .if1 .taken)
 
 box-in-requires : tie.Need-box-in-requires
 box-in-requires c κs = search needs
@@ -19,8 +22,8 @@ box-in-requires c κs = search needs
 prompt-requires : tie.Need-prompt-requires
 prompt-requires c κs = search needs
 
-put-step-requires : tie.Need-put-step-requires
-put-step-requires c κs = search needs
+put-answer-requires : tie.Need-put-answer-requires
+put-answer-requires c κs = search needs
 
 same-length : tie.Need-same-length
 same-length c = search needs
@@ -30,8 +33,15 @@ same-length-2 c = search needs
 
 returns-2 : tie.Need-returns-2
 returns-2 c =
-    event-step prompt (c .before .before .before .before .before .before .before .before .before .before .before .before .before .before .before .before .before .args .n .now) (c .before .before .before .before .before .before .before .before .before .before .before .before .before .before .before .before .before .args .terms .now) (c .before .before .before .before .before .before .before .before .before .before .before .before .before .before .before .before .before .args .orders .now) (c .before .before .before .before .before .before .before .before .before .before .before .before .before .before .before .before .before .args .journal .now) (c .before .before .before .before .before .before .before .before .before .before .before .before .before .before .before .before .before .args .room .now) (c .before .before .before .before .before .before .before .before .before .before .before .before .before .before .before .before .before .args .sizes .now) (sym (c .before .before .before .before .before .before .before .before .before .before .before .before .before .box-range .ensures) ∙ not-false _ (c .before .before .before .before .before .before .before .before .before .before .before .before .if1 .left)) (c .before .before .before .before .before .before .before .before .before .before .box-in .result) (c .before .before .before .before .before .before .before .prompt .result)
-    (c .before .before .before .before .before .before .before .before .before .before .box-in .ensures) (c .before .before .before .before .before .before .before .prompt .ensures) (c .put-step .ensures .0) (c .put-step .ensures .1 .0) (c .put-step .ensures .1 .1)
+    let at-prompt = c .before .before .before .before .before .before .before in
+    let at-box-in = at-prompt .before .before .before in
+    let at-if1 = at-box-in .before .before in
+    let at-box-range = at-if1 .before in
+    let entered = at-box-range .before .before .before .before in
+    let lent = entered .args in
+    event-step is-prompted (lent .n .now) (lent .terms .now) (lent .orders .now) (lent .journal .now) (lent .room .now) (lent .sizes .now)
+    (at-box-range .box-range .ensures) (at-if1 .if1 .left)
+    (at-box-in .box-in .result) (at-prompt .prompt .result) (at-box-in .box-in .ensures) (at-prompt .prompt .ensures) (c .put-answer .ensures)
 
 pub box-prompt-spec : {M : Type 1} → statement M
 box-prompt-spec =
@@ -41,7 +51,7 @@ box-prompt-spec =
     returns
     box-in-requires
     prompt-requires
-    put-step-requires
+    put-answer-requires
     same-length
     same-length-2
     returns-2)

@@ -1,8 +1,6 @@
--- 12 where a number does not fit; otherwise the event's answer, stored.
+-- 12 where a number does not fit; otherwise the box's answer, stored.
 use borrow.Author.Needs.{needs}
-use mathlib.Core.Path.{sym, _∙_}
-use borrow.Author.Tests.{not-true, not-false}
-use Rattle.raft.specs.Receive.{receive}
+use Rattle.raft.specs.Event.{receives}
 use Rattle.abi.specs.BoxLaws.{event-none, event-step}
 use Rattle.abi.proofs.boxes.box_receive.Statement.{statement}
 use Rattle.abi.proofs.boxes.box_receive.Tie as tie
@@ -12,8 +10,11 @@ box-range-requires c κs = search needs
 
 returns : tie.Need-returns
 returns c =
-    let entered = c .before .before .before .before .before .before in
-    event-none (receive (entered .args .text .now)) (entered .args .n .now) (entered .args .terms .now) (entered .args .orders .now) (entered .args .journal .now) (entered .args .room .now) (entered .args .sizes .now) (sym (c .before .box-range .ensures) ∙ not-true _ (c .if1 .taken))
+    let at-box-range = c .before in
+    let entered = at-box-range .before .before .before .before .before in
+    let lent = entered .args in
+    event-none (receives (lent .text .now)) (lent .n .now) (lent .terms .now) (lent .orders .now) (lent .journal .now) (lent .room .now) (lent .sizes .now)
+    (at-box-range .box-range .ensures) (c .if1 .taken)
 
 box-in-requires : tie.Need-box-in-requires
 box-in-requires c κs = search needs
@@ -21,8 +22,8 @@ box-in-requires c κs = search needs
 receive-requires : tie.Need-receive-requires
 receive-requires c κs = search needs
 
-put-step-requires : tie.Need-put-step-requires
-put-step-requires c κs = search needs
+put-answer-requires : tie.Need-put-answer-requires
+put-answer-requires c κs = search needs
 
 same-length : tie.Need-same-length
 same-length c = search needs
@@ -32,8 +33,15 @@ same-length-2 c = search needs
 
 returns-2 : tie.Need-returns-2
 returns-2 c =
-    let entered = c .before .before .before .before .before .before .before .before .before .before .before .before .before .before .before .before .before .before .before .before in
-    event-step (receive (entered .args .text .now)) (entered .args .n .now) (entered .args .terms .now) (entered .args .orders .now) (entered .args .journal .now) (entered .args .room .now) (entered .args .sizes .now) (sym (c .before .before .before .before .before .before .before .before .before .before .before .before .before .before .before .box-range .ensures) ∙ not-false _ (c .before .before .before .before .before .before .before .before .before .before .before .before .before .before .if1 .left)) (c .before .before .before .before .before .before .before .before .before .before .before .before .box-in .result) (c .before .before .before .before .before .before .before .receive .result) (c .before .before .before .before .before .before .before .before .before .before .before .before .box-in .ensures) (c .before .before .before .before .before .before .before .receive .ensures) (c .put-step .ensures .0) (c .put-step .ensures .1 .0) (c .put-step .ensures .1 .1)
+    let at-receive = c .before .before .before .before .before .before .before in
+    let at-box-in = at-receive .before .before .before .before .before in
+    let at-if1 = at-box-in .before .before in
+    let at-box-range = at-if1 .before in
+    let entered = at-box-range .before .before .before .before .before in
+    let lent = entered .args in
+    event-step (receives (lent .text .now)) (lent .n .now) (lent .terms .now) (lent .orders .now) (lent .journal .now) (lent .room .now) (lent .sizes .now)
+    (at-box-range .box-range .ensures) (at-if1 .if1 .left)
+    (at-box-in .box-in .result) (at-receive .receive .result) (at-box-in .box-in .ensures) (at-receive .receive .ensures) (c .put-answer .ensures)
 
 pub box-receive-spec : {M : Type 1} → statement M
 box-receive-spec =
@@ -43,7 +51,7 @@ box-receive-spec =
     returns
     box-in-requires
     receive-requires
-    put-step-requires
+    put-answer-requires
     same-length
     same-length-2
     returns-2)

@@ -1,4 +1,4 @@
--- The start's answer, stored where it is 0.
+-- The start's answer; the box's numbers are stored where it is 0.
 use borrow.Author.Needs.{needs}
 use Rattle.abi.specs.BoxLaws.{start-done, start-refused}
 use Rattle.abi.proofs.boxes.box_start.Statement.{statement}
@@ -17,7 +17,12 @@ same-length : tie.Need-same-length
 same-length c = search needs
 
 returns : tie.Need-returns
-returns c = start-done (c .before .before .before .before .before .before .before .before .before .args .me) (c .before .before .before .before .before .before .before .before .before .args .mask) (c .before .before .before .before .before .before .before .before .before .args .n .now) (c .before .before .before .before .before .before .before .before .before .args .room .now) (c .before .before .before .before .before .before .start .result) (c .before .before .before .before .before .before .start .ensures) (c .before .before .before .if1 .taken) (c .put-box .ensures)
+returns c =
+    let at-if1 = c .before .before .before .before in
+    let at-start = at-if1 .before .before .before in
+    let entered = at-start .before .before .before in
+    let lent = entered .args in
+    start-done (lent .me) (lent .mask) (lent .n .now) (lent .room .now) (at-start .start .result) (at-start .start .ensures) (at-if1 .if1 .taken) (c .put-box .ensures)
 
 cast-result : tie.Need-cast-result
 cast-result c = search needs
@@ -26,7 +31,11 @@ same-length-2 : tie.Need-same-length-2
 same-length-2 c = search needs
 
 returns-2 : tie.Need-returns-2
-returns-2 c = start-refused (c .before .before .before .before .before .before .args .me) (c .before .before .before .before .before .before .args .mask) (c .before .before .before .before .before .before .args .n .now) (c .before .before .before .before .before .before .args .room .now) (c .before .before .before .start .result) (c .before .before .before .start .ensures) (c .if1 .left)
+returns-2 c =
+    let at-start = c .before .before .before in
+    let entered = at-start .before .before .before in
+    let lent = entered .args in
+    start-refused (lent .me) (lent .mask) (lent .n .now) (lent .room .now) (at-start .start .result) (at-start .start .ensures) (c .if1 .left)
 
 pub box-start-spec : {M : Type 1} → statement M
 box-start-spec =

@@ -1,8 +1,6 @@
--- 12 where a number does not fit; otherwise the event's answer, stored.
+-- 12 where a number does not fit; otherwise the box's answer, stored.
 use borrow.Author.Needs.{needs}
-use mathlib.Core.Path.{sym, _∙_}
-use borrow.Author.Tests.{not-true, not-false}
-use Rattle.raft.specs.Timeout.{timeout}
+use Rattle.raft.specs.Event.{times-out}
 use Rattle.abi.specs.BoxLaws.{event-none, event-step}
 use Rattle.abi.proofs.boxes.box_timeout.Statement.{statement}
 use Rattle.abi.proofs.boxes.box_timeout.Tie as tie
@@ -11,7 +9,12 @@ box-range-requires : tie.Need-box-range-requires
 box-range-requires c κs = search needs
 
 returns : tie.Need-returns
-returns c = event-none timeout (c .before .before .before .before .before .args .n .now) (c .before .before .before .before .before .args .terms .now) (c .before .before .before .before .before .args .orders .now) (c .before .before .before .before .before .args .journal .now) (c .before .before .before .before .before .args .room .now) (c .before .before .before .before .before .args .sizes .now) (sym (c .before .box-range .ensures) ∙ not-true _ (c .if1 .taken))
+returns c =
+    let at-box-range = c .before in
+    let entered = at-box-range .before .before .before .before in
+    let lent = entered .args in
+    event-none times-out (lent .n .now) (lent .terms .now) (lent .orders .now) (lent .journal .now) (lent .room .now) (lent .sizes .now)
+    (at-box-range .box-range .ensures) (c .if1 .taken)
 
 box-in-requires : tie.Need-box-in-requires
 box-in-requires c κs = search needs
@@ -19,8 +22,8 @@ box-in-requires c κs = search needs
 timeout-requires : tie.Need-timeout-requires
 timeout-requires c κs = search needs
 
-put-step-requires : tie.Need-put-step-requires
-put-step-requires c κs = search needs
+put-answer-requires : tie.Need-put-answer-requires
+put-answer-requires c κs = search needs
 
 same-length : tie.Need-same-length
 same-length c = search needs
@@ -30,8 +33,15 @@ same-length-2 c = search needs
 
 returns-2 : tie.Need-returns-2
 returns-2 c =
-    event-step timeout (c .before .before .before .before .before .before .before .before .before .before .before .before .before .before .before .before .before .args .n .now) (c .before .before .before .before .before .before .before .before .before .before .before .before .before .before .before .before .before .args .terms .now) (c .before .before .before .before .before .before .before .before .before .before .before .before .before .before .before .before .before .args .orders .now) (c .before .before .before .before .before .before .before .before .before .before .before .before .before .before .before .before .before .args .journal .now) (c .before .before .before .before .before .before .before .before .before .before .before .before .before .before .before .before .before .args .room .now) (c .before .before .before .before .before .before .before .before .before .before .before .before .before .before .before .before .before .args .sizes .now) (sym (c .before .before .before .before .before .before .before .before .before .before .before .before .before .box-range .ensures) ∙ not-false _ (c .before .before .before .before .before .before .before .before .before .before .before .before .if1 .left)) (c .before .before .before .before .before .before .before .before .before .before .box-in .result) (c .before .before .before .before .before .before .before .timeout .result)
-    (c .before .before .before .before .before .before .before .before .before .before .box-in .ensures) (c .before .before .before .before .before .before .before .timeout .ensures) (c .put-step .ensures .0) (c .put-step .ensures .1 .0) (c .put-step .ensures .1 .1)
+    let at-timeout = c .before .before .before .before .before .before .before in
+    let at-box-in = at-timeout .before .before .before in
+    let at-if1 = at-box-in .before .before in
+    let at-box-range = at-if1 .before in
+    let entered = at-box-range .before .before .before .before in
+    let lent = entered .args in
+    event-step times-out (lent .n .now) (lent .terms .now) (lent .orders .now) (lent .journal .now) (lent .room .now) (lent .sizes .now)
+    (at-box-range .box-range .ensures) (at-if1 .if1 .left)
+    (at-box-in .box-in .result) (at-timeout .timeout .result) (at-box-in .box-in .ensures) (at-timeout .timeout .ensures) (c .put-answer .ensures)
 
 pub box-timeout-spec : {M : Type 1} → statement M
 box-timeout-spec =
@@ -41,7 +51,7 @@ box-timeout-spec =
     returns
     box-in-requires
     timeout-requires
-    put-step-requires
+    put-answer-requires
     same-length
     same-length-2
     returns-2)

@@ -1,7 +1,5 @@
--- 12 where a number does not fit; otherwise the answer, stored.
+-- 12 where a number does not fit; otherwise the line's answer, stored.
 use borrow.Author.Needs.{needs}
-use mathlib.Core.Path.{sym, _∙_}
-use borrow.Author.Tests.{not-true, not-false}
 use Rattle.abi.specs.Journals.{replays-none, replays-flat}
 use Rattle.abi.proofs.journals.journal_replay.Statement.{statement}
 use Rattle.abi.proofs.journals.journal_replay.Tie as tie
@@ -11,8 +9,10 @@ box-range-requires c κs = search needs
 
 returns : tie.Need-returns
 returns c =
-    let entered = c .before .before .before .before in
-    replays-none (entered .args .text .now) (entered .args .n .now) (entered .args .terms .now) (entered .args .orders .now) (sym (c .before .box-range .ensures) ∙ not-true _ (c .if1 .taken))
+    let at-box-range = c .before in
+    let entered = at-box-range .before .before .before in
+    let lent = entered .args in
+    replays-none (lent .text .now) (lent .n .now) (lent .terms .now) (lent .orders .now) (at-box-range .box-range .ensures) (c .if1 .taken)
 
 box-in-requires : tie.Need-box-in-requires
 box-in-requires c κs = search needs
@@ -25,8 +25,14 @@ put-replayed-requires c κs = search needs
 
 returns-2 : tie.Need-returns-2
 returns-2 c =
-    let entered = c .before .before .before .before .before .before .before .before .before .before .before in
-    replays-flat (entered .args .text .now) (entered .args .n .now) (entered .args .terms .now) (entered .args .orders .now) (sym (c .before .before .before .before .before .before .before .before .box-range .ensures) ∙ not-false _ (c .before .before .before .before .before .before .before .if1 .left)) (c .before .before .before .before .before .box-in .result) (c .before .before .replay .result) (c .before .before .before .before .before .box-in .ensures) (c .before .before .replay .ensures) (c .put-replayed .ensures .0) (c .put-replayed .ensures .1)
+    let at-replay = c .before .before in
+    let at-box-in = at-replay .before .before .before in
+    let at-if1 = at-box-in .before .before in
+    let at-box-range = at-if1 .before in
+    let entered = at-box-range .before .before .before in
+    let lent = entered .args in
+    replays-flat (lent .text .now) (lent .n .now) (lent .terms .now) (lent .orders .now) (at-box-range .box-range .ensures) (at-if1 .if1 .left)
+    (at-box-in .box-in .result) (at-replay .replay .result) (at-box-in .box-in .ensures) (at-replay .replay .ensures) (c .put-replayed .ensures)
 
 pub journal-replay-spec : {M : Type 1} → statement M
 journal-replay-spec =

@@ -1,6 +1,6 @@
 -- Stored where the refusal is 0, the line's number where it is 10, and nothing otherwise.
 use borrow.Author.Needs.{needs}
-use mathlib.Core.Path.{refl, sym, _∙_}
+use mathlib.Core.Path.{refl, sym}
 use borrow.Author.Tests.{eq-eqb, ne-eqb}
 use Rattle.abi.proofs.journals.put_opened.Statement.{statement}
 use Rattle.abi.proofs.journals.put_opened.Tie as tie
@@ -12,16 +12,26 @@ element-write-sizes : tie.Need-element-write-sizes
 element-write-sizes c = search needs
 
 returns : tie.Need-returns
-returns c = (sym (c .before .before .before .if1 .taken), (rw (eq-eqb _ _ (c .before .before .before .if1 .taken)) (c .put-box .ensures), rw (eq-eqb _ _ (c .before .before .before .if1 .taken))))
+returns c =
+    let at-if1 = c .before .before .before in
+    let zero = at-if1 .if1 .taken in
+    record { number = sym zero; numbers = rw (eq-eqb _ _ zero) (c .put-box .ensures); lengths = rw (eq-eqb _ _ zero) }
 
 element-write-sizes-2 : tie.Need-element-write-sizes-2
 element-write-sizes-2 c = search needs
 
 returns-2 : tie.Need-returns-2
-returns-2 c = (sym (c .if2 .taken), (rw (ne-eqb _ _ (c .before .if1 .left)), rw (ne-eqb _ _ (c .before .if1 .left), eq-eqb _ _ (c .if2 .taken))))
+returns-2 c =
+    let at-if1 = c .before in
+    let other = at-if1 .if1 .left in
+    let ten = c .if2 .taken in
+    record { number = sym ten; numbers = rw (ne-eqb _ _ other); lengths = rw (ne-eqb _ _ other, eq-eqb _ _ ten) }
 
 returns-3 : tie.Need-returns-3
-returns-3 c = (refl, (rw (ne-eqb _ _ (c .before .if1 .left)), rw (ne-eqb _ _ (c .before .if1 .left), ne-eqb _ _ (c .if2 .left))))
+returns-3 c =
+    let at-if1 = c .before in
+    let other = at-if1 .if1 .left in
+    record { number = refl; numbers = rw (ne-eqb _ _ other); lengths = rw (ne-eqb _ _ other, ne-eqb _ _ (c .if2 .left)) }
 
 pub put-opened-spec : {M : Type 1} → statement M
 put-opened-spec =

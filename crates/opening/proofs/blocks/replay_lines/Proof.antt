@@ -26,20 +26,20 @@ returns c =
     let at-loop = at-line-end .before in
     counted-end (at-loop .loop .inv) (at-line-end .line-end .ensures) (c .if1 .taken)
 
-sub-replay : tie.Need-sub-replay Inv-loop μ-loop
-sub-replay c = search needs
+sub-replay-line : tie.Need-sub-replay-line Inv-loop μ-loop
+sub-replay-line c = search needs
 
-part-replay-start : tie.Need-part-replay-start Inv-loop μ-loop
-part-replay-start c = search needs
+part-replay-line-start : tie.Need-part-replay-line-start Inv-loop μ-loop
+part-replay-line-start c = search needs
 
-part-replay-end : tie.Need-part-replay-end Inv-loop μ-loop
-part-replay-end c =
+part-replay-line-end : tie.Need-part-replay-line-end Inv-loop μ-loop
+part-replay-line-end c =
     let at-line-end = c .before in
     let at-loop = at-line-end .before in
     end-inside _ (at-loop .loop .inv .inside) (at-line-end .line-end .ensures)
 
-replay-requires : tie.Need-replay-requires Inv-loop μ-loop
-replay-requires c κs = search needs
+replay-line-requires : tie.Need-replay-line-requires Inv-loop μ-loop
+replay-line-requires c κs = search needs
 
 returns-2 : tie.Need-returns-2 Inv-loop μ-loop
 returns-2 c =
@@ -47,7 +47,7 @@ returns-2 c =
     let at-if1 = at-replay .before .before .before .before in
     let at-line-end = at-if1 .before in
     let at-loop = at-line-end .before in
-    counted-stop (at-loop .loop .inv) (at-line-end .line-end .ensures) (at-if1 .if1 .left) (at-replay .replay .ensures) (c .if2 .taken)
+    counted-stop (at-loop .loop .inv) (at-line-end .line-end .ensures) (at-if1 .if1 .left) (at-replay .replay-line .ensures) (c .if2 .taken)
 
 add-lines : tie.Need-add-lines Inv-loop μ-loop
 add-lines c =
@@ -69,7 +69,7 @@ loop-again c =
     let at-if1 = at-replay .before .before .before .before in
     let at-line-end = at-if1 .before in
     let at-loop = at-line-end .before in
-    counted-next (at-loop .loop .inv) (at-line-end .line-end .ensures) (at-if1 .if1 .left) (at-replay .replay .ensures) (at-if2 .if2 .left)
+    counted-next (at-loop .loop .inv) (at-line-end .line-end .ensures) (at-if1 .if1 .left) (at-replay .replay-line .ensures) (at-if2 .if2 .left)
 
 pub replay-lines-spec : {M : Type 1} → statement M
 replay-lines-spec =
@@ -80,10 +80,10 @@ replay-lines-spec =
     loop-holds
     line-end-requires
     returns
-    sub-replay
-    part-replay-start
-    part-replay-end
-    replay-requires
+    sub-replay-line
+    part-replay-line-start
+    part-replay-line-end
+    replay-line-requires
     returns-2
     add-lines
     loop-less

@@ -36,20 +36,20 @@ returns c =
     let at-loop = at-line-end .before in
     reached-end (at-loop .loop .inv) (at-line-end .line-end .ensures) (c .if1 .taken)
 
-sub-replay : tie.Need-sub-replay Inv-loop μ-loop
-sub-replay c = search needs
+sub-replay-line : tie.Need-sub-replay-line Inv-loop μ-loop
+sub-replay-line c = search needs
 
-part-replay-start : tie.Need-part-replay-start Inv-loop μ-loop
-part-replay-start c = search needs
+part-replay-line-start : tie.Need-part-replay-line-start Inv-loop μ-loop
+part-replay-line-start c = search needs
 
-part-replay-end : tie.Need-part-replay-end Inv-loop μ-loop
-part-replay-end c =
+part-replay-line-end : tie.Need-part-replay-line-end Inv-loop μ-loop
+part-replay-line-end c =
     let at-line-end = c .before in
     let at-loop = at-line-end .before in
     end-inside _ (at-loop .loop .inv .inside) (at-line-end .line-end .ensures)
 
-replay-requires : tie.Need-replay-requires Inv-loop μ-loop
-replay-requires c κs = search needs
+replay-line-requires : tie.Need-replay-line-requires Inv-loop μ-loop
+replay-line-requires c κs = search needs
 
 refused-requires : tie.Need-refused-requires Inv-loop μ-loop
 refused-requires c κs = search needs
@@ -59,14 +59,14 @@ same-length-3 c =
     let at-replay = c .before .before .before .before .before .before .before in
     let at-loop = at-replay .before .before .before .before .before .before in
     let entered = at-loop .before .before .before .before in
-    at-replay .replay .kept .1 .1 .0 ∙ at-loop .loop .inv .lent .terms-long ∙ sym (entered .pre .lent .terms-long)
+    at-replay .replay-line .kept .1 .1 .0 ∙ at-loop .loop .inv .lent .terms-long ∙ sym (entered .pre .lent .terms-long)
 
 same-length-4 : tie.Need-same-length-4 Inv-loop μ-loop
 same-length-4 c =
     let at-replay = c .before .before .before .before .before .before .before in
     let at-loop = at-replay .before .before .before .before .before .before in
     let entered = at-loop .before .before .before .before in
-    at-replay .replay .kept .1 .1 .1 .0 ∙ at-loop .loop .inv .lent .orders-long ∙ sym (entered .pre .lent .orders-long)
+    at-replay .replay-line .kept .1 .1 .1 .0 ∙ at-loop .loop .inv .lent .orders-long ∙ sym (entered .pre .lent .orders-long)
 
 returns-2 : tie.Need-returns-2 Inv-loop μ-loop
 returns-2 c =
@@ -75,7 +75,7 @@ returns-2 c =
     let at-if1 = at-replay .before .before .before .before in
     let at-line-end = at-if1 .before in
     let at-loop = at-line-end .before in
-    reached-broken (at-loop .loop .inv) (at-line-end .line-end .ensures) (at-if1 .if1 .left) (at-replay .replay .ensures) (at-if2 .if2 .taken) (c .refused .ensures) _ _
+    reached-broken (at-loop .loop .inv) (at-line-end .line-end .ensures) (at-if1 .if1 .left) (at-replay .replay-line .ensures) (at-if2 .if2 .taken) (c .refused .ensures) _ _
 
 add-number : tie.Need-add-number Inv-loop μ-loop
 add-number c = search needs
@@ -94,9 +94,9 @@ loop-again c =
     let at-if1 = at-replay .before .before .before .before in
     let at-line-end = at-if1 .before in
     let at-loop = at-line-end .before in
-    let terms-long = at-replay .replay .kept .1 .1 .0 ∙ at-loop .loop .inv .lent .terms-long in
-    let orders-long = at-replay .replay .kept .1 .1 .1 .0 ∙ at-loop .loop .inv .lent .orders-long in
-    reached-next (at-loop .loop .inv) (at-line-end .line-end .ensures) (at-if1 .if1 .left) (at-replay .replay .ensures) (at-if2 .if2 .left)
+    let terms-long = at-replay .replay-line .kept .1 .1 .0 ∙ at-loop .loop .inv .lent .terms-long in
+    let orders-long = at-replay .replay-line .kept .1 .1 .1 .0 ∙ at-loop .loop .inv .lent .orders-long in
+    reached-next (at-loop .loop .inv) (at-line-end .line-end .ensures) (at-if1 .if1 .left) (at-replay .replay-line .ensures) (at-if2 .if2 .left)
     (record { terms-long = terms-long; orders-long = orders-long })
 
 pub replay-all-spec : {M : Type 1} → statement M
@@ -110,10 +110,10 @@ replay-all-spec =
     same-length
     same-length-2
     returns
-    sub-replay
-    part-replay-start
-    part-replay-end
-    replay-requires
+    sub-replay-line
+    part-replay-line-start
+    part-replay-line-end
+    replay-line-requires
     refused-requires
     same-length-3
     same-length-4

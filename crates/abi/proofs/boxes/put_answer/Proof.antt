@@ -2,8 +2,8 @@
 use borrow.Author.Needs.{needs}
 use mathlib.Core.Path.{refl, sym}
 use borrow.Author.Tests.{eq-eqb, ne-eqb}
-use Rattle.abi.proofs.boxes.put_step.Statement.{statement}
-use Rattle.abi.proofs.boxes.put_step.Tie as tie
+use Rattle.abi.proofs.boxes.put_answer.Statement.{statement}
+use Rattle.abi.proofs.boxes.put_answer.Tie as tie
 
 put-box-requires : tie.Need-put-box-requires
 put-box-requires c κs = search needs
@@ -15,12 +15,17 @@ element-write-sizes-2 : tie.Need-element-write-sizes-2
 element-write-sizes-2 c = search needs
 
 returns : tie.Need-returns
-returns c = (sym (c .before .before .before .if1 .taken), (rw (eq-eqb _ _ (c .before .before .before .if1 .taken)) (c .put-box .ensures), rw (eq-eqb _ _ (c .before .before .before .if1 .taken))))
+returns c =
+    let at-if1 = c .before .before .before .before in
+    let zero = at-if1 .if1 .taken in
+    record { number = sym zero; numbers = rw (eq-eqb _ _ zero) (c .put-box .ensures); lengths = rw (eq-eqb _ _ zero) }
 
 returns-2 : tie.Need-returns-2
-returns-2 c = (refl, (rw (ne-eqb _ _ (c .if1 .left)), rw (ne-eqb _ _ (c .if1 .left))))
+returns-2 c =
+    let other = c .if1 .left in
+    record { number = refl; numbers = rw (ne-eqb _ _ other); lengths = rw (ne-eqb _ _ other) }
 
-pub put-step-spec : {M : Type 1} → statement M
-put-step-spec =
+pub put-answer-spec : {M : Type 1} → statement M
+put-answer-spec =
     tie.close
     (tie.spec put-box-requires element-write-sizes element-write-sizes-2 returns returns-2)

@@ -6,8 +6,8 @@ use borrow.Author.Tests.{not-true, not-false}
 use Rattle.journal.specs.Lines.{count-in}
 use Rattle.opening.specs.CodeLaws.{shaped-run, allowed-numbers}
 use Rattle.opening.specs.ReplayCode.{replay-unshaped, replay-refused, replay-many, replay-next}
-use Rattle.opening.proofs.whole.replay.Statement.{statement}
-use Rattle.opening.proofs.whole.replay.Tie as tie
+use Rattle.opening.proofs.whole.replay_line.Statement.{statement}
+use Rattle.opening.proofs.whole.replay_line.Tie as tie
 
 is-shaped-requires : tie.Need-is-shaped-requires
 is-shaped-requires c κs = search needs
@@ -123,8 +123,8 @@ returns-4 c =
     let next = replay-next (entered .args .n) (entered .args .line .now) terms orders _ shaped (at-fields .line-fields .ensures .0) holds (entered .pre) in
     next (c .after .ensures) (at-store .store .ensures .0) (at-store .store .ensures .1)
 
-pub replay-spec : {M : Type 1} → statement M
-replay-spec =
+pub replay-line-spec : {M : Type 1} → statement M
+replay-line-spec =
     tie.close
     (tie.spec
     is-shaped-requires
