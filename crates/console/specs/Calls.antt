@@ -1,5 +1,5 @@
 -- The calls: what an answer to a line leaves in everything lent. Assumes nothing.
-use Prim.Native.Nat.{ℕ, _+_, _-_, _≤_}
+use Prim.Native.Nat.{ℕ, _+_, _-_, _*_, _≤_}
 use mathlib.Core.Path.{_≡_}
 use mathlib.Core.Bool.{Bool, true, false, cond}
 use mathlib.Core.List.{List, [], _∷_, _++_}
@@ -165,6 +165,12 @@ pub record Known (known : Bool) (b : Record) (terms orders : List ℕ) : Type 0 
 pub record Roomy (room messages : List ℕ) : Type 0 where
   pub answers : longest ≤ length room
   pub aside : longest-messages ≤ length messages
+
+-- What a log's text requires: that many entries are lent, and from a place on the room has 25 bytes for each.
+pub record Listable (terms orders : List ℕ) (last : ℕ) (room : List ℕ) (at : ℕ) : Type 0 where
+  pub terms-hold : last ≤ length terms
+  pub orders-hold : last ≤ length orders
+  pub wide : at + 25 * last ≤ length room
 
 -- What a record's text requires: the log is lent whole, the record's part of it fits, and the room holds any record: four numbers and 256 entries.
 pub record Showable (b : Record) (terms orders room : List ℕ) : Type 0 where

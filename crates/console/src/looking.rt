@@ -2,13 +2,13 @@
 use crate::printing::put_decimal;
 use record::Record;
 ghost use mathlib.Core.Path.{_≡_};
-ghost use Prim.Native.Nat.{_+_, _*_, _≤_};
+ghost use Prim.Native.Nat.{_+_, _≤_};
 ghost use lib.ListN.{length};
 ghost use Rattle.digits.specs.Room.{over};
 ghost use Rattle.raft.specs.Lent.{entries-of};
 ghost use Rattle.record.specs.Calls.{state-of};
 ghost use Rattle.console.specs.Looking.{asks, asked-box, numbered, first-shown, log-shown, shown};
-ghost use Rattle.console.specs.Calls.{Puts, Showable};
+ghost use Rattle.console.specs.Calls.{Puts, Listable, Showable};
 
 // "a first line with one digit, the box asked for"
 fn is_asking(s: &[u8]) -> bool
@@ -55,9 +55,7 @@ fn put_first(room: &mut [u8], bytes: u64, term: u32, vote: u8, last: u16) -> usi
 
 // So many entries of the lent log, each on a line of its own.
 fn put_log(room: &mut [u8], at: usize, terms: &[u32], orders: &[u64], last: usize)
-    requires { ⌜ last ≤ length (now terms) ⌝ }
-    requires { ⌜ last ≤ length (now orders) ⌝ }
-    requires { ⌜ at + 25 * last ≤ length (now room) ⌝ }
+    requires { ⌜ Listable (now terms) (now orders) last (now room) at ⌝ }
     ensures { λ _. ⌜ now (room .exit) ≡ over (now (room .entry)) at
         (log-shown (entries-of (now (terms .entry)) (now (orders .entry)) 0 last)) ⌝ }
 {

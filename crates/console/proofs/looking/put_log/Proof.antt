@@ -2,7 +2,7 @@
 use borrow.Author.Needs.{needs}
 use mathlib.Core.Path.{_≡_, refl, ap, _∙_}
 use native.Mathlib.Omega.{arith}
-use Prim.Native.Nat.{ℕ, _+_, _-_, _*_, _≤_}
+use Prim.Native.Nat.{ℕ, _-_, _≤_}
 use mathlib.Core.List.{List}
 use lib.ListN.{length, length-set}
 use Rattle.digits.specs.Room.{over}
@@ -75,8 +75,7 @@ loop-again c =
     let loop = c .before .before .before .before .before .before .before .loop in
     let entered = c .before .before .before .before .before .before .before .before .before .before .before in
     let a = entered .args in
-    let wide : a .at + 25 * a .last ≤ length (a .room .now) = entered .pre .1 .1 in
-    let text = logged-next (a .room .now) (a .at) (a .terms .now) (a .orders .now) (loop .i) (omega (arith, wide)) (loop .inv .holds) (put-entry .ensures) in
+    let text = logged-next (a .room .now) (a .at) (a .terms .now) (a .orders .now) (loop .i) (omega (arith, entered .pre .wide)) (loop .inv .holds) (put-entry .ensures) in
     record { within = omega arith; long = simp length-set (omega (arith, put-entry .kept .0, loop .inv .long)); holds = text }
 
 same-length : tie.Need-same-length Inv-loop μ-loop

@@ -19,7 +19,11 @@ put-log-requires c κs =
     let entered = at-put-first .before .before .before .before .before in
     let k = entered .pre in
     let first = at-put-first .put-first in
-    (omega (arith, k .fits, k .terms-long), (omega (arith, k .fits, k .orders-long), omega (arith, k .fits, k .wide, first .ensures .1, first .kept .0)))
+    record {
+      terms-hold = omega (arith, k .fits, k .terms-long);
+      orders-hold = omega (arith, k .fits, k .orders-long);
+      wide = omega (arith, k .fits, k .wide, first .ensures .1, first .kept .0);
+    }
 
 cast-result : tie.Need-cast-result
 cast-result c = search needs
