@@ -16,23 +16,23 @@ use Rattle.raft.specs.Record.{is-membership, fresh}
 use Rattle.raft.specs.Journal.{head}
 use Rattle.journal.specs.Lines.{box-in, mask-in, head-shaped}
 use Rattle.journal.specs.Opening.{is-head}
-use Rattle.record.specs.declared.Node.{Node}
 use Rattle.record.specs.declared.Started.{Started}
-use Rattle.record.specs.Calls.{node-of, begun}
+use Rattle.record.specs.Calls.{record-of, begun}
 use Rattle.record.specs.Calls as calls
-use Rattle.record.specs.EventLaws.{head-long}
+use Rattle.record.specs.WrittenLaws.{head-long}
 use Rattle.console.specs.declared.Begun.{Begun}
 use Rattle.console.specs.Session.{refusal-line, is-start}
 use Rattle.console.specs.TextLaws.{refusal-most}
-use Rattle.console.specs.Calls.{longest, starts, Beginning, none, beginning}
+use Rattle.console.specs.Calls.{longest, starts, Starts, Beginning, none, beginning, Begins, Puts}
 
 -- a head's form has eight digits
 pub head-digits : (line : List ℕ) → head-shaped line ≡ true → run line ≡ 8
 unfolding head-shaped
 head-digits line h =
     let long : eqb (length line) 9 ≡ true = and-right (is-line line && eqb (version line) 1 && eqb (kind line) 17) _ h in
-    let line' : is-line line ≡ true = and-left (is-line line) _ (and-left (is-line line && eqb (version line) 1) _ (and-left (is-line line && eqb (version line) 1 && eqb (kind line) 17) _ h)) in
-    omega (arith, line-run line line', eqb-true (length line) 9 long)
+    let front = and-left (is-line line && eqb (version line) 1 && eqb (kind line) 17) _ h in
+    let one : is-line line ≡ true = and-left (is-line line) _ (and-left (is-line line && eqb (version line) 1) _ front) in
+    omega (arith, line-run line one, eqb-true (length line) 9 long)
 
 -- what has not the form of a head starts nothing
 pub unshaped : (line : List ℕ) → head-shaped line ≡ false → is-start line ≡ false
@@ -44,47 +44,54 @@ pub shaped : (line : List ℕ) → head-shaped line ≡ true → is-start line �
 unfolding is-start is-head
 shaped line h = rw (h, eq-eqb (box-in line) (box-in line) refl)
 
--- room that is too short for any answer
-pub begin-short : (line room : List ℕ) → length room < longest → {node : Node} {room' : List ℕ} → (node ≡ none) × (room' ≡ room)
-    → _≡_ {A = Beginning} (record { answer = record { fits = false; started = false; node = node; bytes = 0 }; room = room' }) (beginning line room)
-unfolding beginning
-begin-short line room h e = rw (lt-leb longest (length room) h, e .0, e .1)
+-- ---- a start of no box
 
--- a start of no box hands out none, and leaves the room
-pub start-none : (room : List ℕ) {st : Started} {room' : List ℕ} → _≡_ {A = calls.Begun} (record { answer = st; room = room' }) (begun 0 0 room)
-    → (st .node ≡ none) × (room' ≡ room)
+-- it hands out none, and leaves the room
+pub record Nothing (answer : Started) (room room' : List ℕ) : Type 0 where
+  pub state : answer .state ≡ none
+  pub kept : room' ≡ room
+
+pub start-none : (room : List ℕ) {st : Started} {room' : List ℕ} → _≡_ {A = calls.Begun} (record { answer = st; journal = room' }) (begun 0 0 room)
+    → Nothing st room room'
 unfolding begun is-membership
-start-none room e = (ap (λ (x : calls.Begun). x .answer .node) e, ap (λ (x : calls.Begun). x .room) e)
+start-none room e = record { state = ap (λ (x : calls.Begun). x .answer .state) e; kept = ap (λ (x : calls.Begun). x .journal) e }
 
--- a start by a line: as its form tells
+-- so room that is too short for any answer stays as it is
+pub begin-short : (line room : List ℕ) → length room < longest → {st : Started} {room' : List ℕ} → Nothing st room room'
+    → Begins line room (record { fits = false; started = false; state = st .state; bytes = 0 }) room'
+unfolding beginning
+begin-short line room h e = rw (lt-leb longest (length room) h, e .state, e .kept)
+
+-- ---- a start by a line
+
+-- as its form tells
 pub starts-none : (line room : List ℕ) → head-shaped line ≡ false → starts line room ≡ begun 0 0 room
 unfolding starts
 starts-none line room h = rw h
 
-pub starts-head : (line room : List ℕ) → head-shaped line ≡ true → starts line room ≡ begun (box-in line) (mask-in line) room
+starts-head : (line room : List ℕ) → head-shaped line ≡ true → starts line room ≡ begun (box-in line) (mask-in line) room
 unfolding starts
 starts-head line room h = rw h
 
+pub starts-shaped : (line room : List ℕ) {me mask : ℕ} → head-shaped line ≡ true → me ≡ box-in line → mask ≡ mask-in line
+    → begun me mask room ≡ starts line room
+starts-shaped line room h e f = rw (starts-head line room h, e, f)
+
 -- with room for a head, it starts a box or it is 12
-starts-by : (line room : List ℕ) → longest ≤ length room
-    → starts line room
-    ≡ cond (is-start line)
+abbrev started-by : List ℕ → List ℕ → calls.Begun
+started-by line room =
+    cond (is-start line)
     (record {
-      answer = record { refusal = 0; node = node-of (fresh (box-in line) (mask-in line)); bytes = length (head (box-in line) (mask-in line)) };
-      room = over room 0 (head (box-in line) (mask-in line));
+      answer = record { refusal = 0; state = record-of (fresh (box-in line) (mask-in line)); bytes = length (head (box-in line) (mask-in line)) };
+      journal = over room 0 (head (box-in line) (mask-in line));
     })
-    (record { answer = record { refusal = 12; node = none; bytes = 0 }; room = room })
+    (record { answer = record { refusal = 12; state = none; bytes = 0 }; journal = room })
+
+starts-by : (line room : List ℕ) → longest ≤ length room → starts line room ≡ started-by line room
 unfolding begun is-membership
 starts-by line room h = go (head-shaped line) refl
   where
-    go : (b : Bool) → head-shaped line ≡ b
-        → starts line room
-        ≡ cond (is-start line)
-        (record {
-          answer = record { refusal = 0; node = node-of (fresh (box-in line) (mask-in line)); bytes = length (head (box-in line) (mask-in line)) };
-          room = over room 0 (head (box-in line) (mask-in line));
-        })
-        (record { answer = record { refusal = 12; node = none; bytes = 0 }; room = room })
+    go : (b : Bool) → head-shaped line ≡ b → starts line room ≡ started-by line room
     go true p =
         rw (
           starts-head line room p,
@@ -93,53 +100,37 @@ starts-by line room h = go (head-shaped line) refl
         )
     go false p = rw (starts-none line room p, unshaped line p)
 
-module _ (line room : List ℕ) (h : longest ≤ length room) (st : Started) {room' : List ℕ}
-    (e : _≡_ {A = calls.Begun} (record { answer = st; room = room' }) (starts line room)) where
+module _ (line room : List ℕ) (h : longest ≤ length room) {st : Started} {room' : List ℕ} (e : Starts line room st room') where
   -- a start that is refused: 12 is printed
-  pub start-bad : (st .refusal ≡ 0 → ⊥) → {room'' : List ℕ} {bytes : ℕ} → room'' ≡ over room' 0 (refusal-line 12) → bytes ≡ length (refusal-line 12)
-      → _≡_ {A = Beginning} (record { answer = record { fits = true; started = false; node = st .node; bytes = bytes }; room = room'' })
-      (beginning line room)
+  pub start-bad : (st .refusal ≡ 0 → ⊥) → {room'' : List ℕ} {bytes : ℕ} → Puts room' 0 (refusal-line 12) bytes room''
+      → Begins line room (record { fits = true; started = false; state = st .state; bytes = bytes }) room''
   unfolding beginning
-  start-bad z {room''} {bytes} r l = go (is-start line) refl (e ∙ starts-by line room h)
+  start-bad z {room''} {bytes} r = go (is-start line) refl (e ∙ starts-by line room h)
     where
-      go : (b : Bool) → is-start line ≡ b
-          → _≡_ {A = calls.Begun} (record { answer = st; room = room' })
-          (cond (is-start line)
-          (record {
-            answer = record { refusal = 0; node = node-of (fresh (box-in line) (mask-in line)); bytes = length (head (box-in line) (mask-in line)) };
-            room = over room 0 (head (box-in line) (mask-in line));
-          })
-          (record { answer = record { refusal = 12; node = none; bytes = 0 }; room = room }))
-          → _≡_ {A = Beginning} (record { answer = record { fits = true; started = false; node = st .node; bytes = bytes }; room = room'' })
-          (beginning line room)
+      long : bytes ≡ length (refusal-line 12)
+      long = omega (arith, r .behind)
+
+      go : (b : Bool) → is-start line ≡ b → _≡_ {A = calls.Begun} (record { answer = st; journal = room' }) (started-by line room)
+          → Begins line room (record { fits = true; started = false; state = st .state; bytes = bytes }) room''
       go true p q = absurd (z (ap (λ (x : calls.Begun). x .answer .refusal) (rw p at q)))
       go false p q =
           let q' = rw p at q in
-          rw (le-leb longest (length room) h, p, r, l, ap (λ (x : calls.Begun). x .answer) q', ap (λ (x : calls.Begun). x .room) q')
+          rw (le-leb longest (length room) h, p, r .holds, long, ap (λ (x : calls.Begun). x .answer) q', ap (λ (x : calls.Begun). x .journal) q')
 
   -- one that is done: the fresh box and its head
-  pub start-done : st .refusal ≡ 0
-      → _≡_ {A = Beginning} (record { answer = record { fits = true; started = true; node = st .node; bytes = st .bytes }; room = room' })
-      (beginning line room)
+  pub start-done : st .refusal ≡ 0 → Begins line room (record { fits = true; started = true; state = st .state; bytes = st .bytes }) room'
   unfolding beginning
   start-done z = go (is-start line) refl (e ∙ starts-by line room h)
     where
-      go : (b : Bool) → is-start line ≡ b
-          → _≡_ {A = calls.Begun} (record { answer = st; room = room' })
-          (cond (is-start line)
-          (record {
-            answer = record { refusal = 0; node = node-of (fresh (box-in line) (mask-in line)); bytes = length (head (box-in line) (mask-in line)) };
-            room = over room 0 (head (box-in line) (mask-in line));
-          })
-          (record { answer = record { refusal = 12; node = none; bytes = 0 }; room = room }))
-          → _≡_ {A = Beginning} (record { answer = record { fits = true; started = true; node = st .node; bytes = st .bytes }; room = room' })
-          (beginning line room)
+      go : (b : Bool) → is-start line ≡ b → _≡_ {A = calls.Begun} (record { answer = st; journal = room' }) (started-by line room)
+          → Begins line room (record { fits = true; started = true; state = st .state; bytes = st .bytes }) room'
       go true p q =
           let q' = rw p at q in
-          rw (le-leb longest (length room) h, p, ap (λ (x : calls.Begun). x .answer) q', ap (λ (x : calls.Begun). x .room) q')
+          rw (le-leb longest (length room) h, p, ap (λ (x : calls.Begun). x .answer) q', ap (λ (x : calls.Begun). x .journal) q')
       go false p q = absurd (omega (arith, z, ap (λ (x : calls.Begun). x .answer .refusal) (rw p at q)))
 
--- what is printed fits
+-- ---- what is printed fits
+
 begin-most : (line room : List ℕ) → beginning line room .answer .bytes ≤ length room
 unfolding beginning
 begin-most line room = go (leb longest (length room)) refl (is-start line) refl
@@ -149,6 +140,5 @@ begin-most line room = go (leb longest (length room)) refl (is-start line) refl
     go true e false p = rw (e, p) (omega (arith, leb-true longest (length room) e, refusal-most 12))
     go false e m p = rw e (omega arith)
 
-pub begin-within : (line room : List ℕ) (x : Begun) {room' : List ℕ} → _≡_ {A = Beginning} (record { answer = x; room = room' }) (beginning line room)
-    → x .bytes ≤ length room
-begin-within line room x e = omega (arith, ap (λ (b : Beginning). b .answer .bytes) e, begin-most line room)
+pub begin-within : (line room : List ℕ) {x : Begun} {room' : List ℕ} → Begins line room x room' → x .bytes ≤ length room
+begin-within line room e = omega (arith, ap (λ (b : Beginning). b .answer .bytes) e, begin-most line room)

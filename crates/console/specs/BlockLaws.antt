@@ -1,4 +1,4 @@
--- A block of lines: what was answered up to a place and what is left make the whole (`Stands`). Assumes nothing.
+-- A block of lines: what was answered up to a place and what is left make the whole (`Reached`). Assumes nothing.
 use Prim.Native.Nat.{ℕ, _+_, _-_, _≤_, _<_}
 use native.Mathlib.Omega.{arith}
 use mathlib.Core.Path.{_≡_, refl, sym, ap, _∙_}
@@ -12,19 +12,19 @@ use Rattle.raft.specs.Sends.{texts}
 use Rattle.raft.specs.Journal.{journaled}
 use Rattle.raft.specs.Outcome.{Outcome, done, refuse}
 use Rattle.journal.specs.Lines.{lines}
-use Rattle.record.specs.declared.Node.{Node}
+use Rattle.record.specs.declared.Record.{Record}
 use Rattle.record.specs.Calls.{state-of}
-use Rattle.opening.specs.Calls.{first-line}
-use Rattle.opening.specs.CodeLaws.{first-most}
+use Rattle.text.specs.Lines.{first-line}
+use Rattle.text.specs.LinesLaws.{first-most}
 use Rattle.opening.specs.ReplayCode.{lines-end, lines-next}
 use Rattle.console.specs.declared.Answered.{Answered}
 use Rattle.console.specs.Session.{outcome-of, printed}
-use Rattle.console.specs.Calls.{longest, Saying, said, saying, Telling, told, tell}
+use Rattle.console.specs.Calls.{longest, Saying, said, saying, Says, told, tell, reached, telling, Tells, Known}
 use Rattle.console.specs.TextLaws.{rest-whole, refusal-most}
 use Rattle.console.specs.SayingLaws.{outcome-short}
 
 -- an answer never passes the room
-pub saying-most : (b : Node) (line terms orders room : List ℕ) → saying b line terms orders room .answer .bytes ≤ length room
+saying-most : (b : Record) (line terms orders room : List ℕ) → saying b line terms orders room .answer .bytes ≤ length room
 unfolding saying said printed
 saying-most b line terms orders room = by-room (leb longest (length room)) refl
   where
@@ -41,79 +41,108 @@ saying-most b line terms orders room = by-room (leb longest (length room)) refl
     by-room true e = rw e (by-outcome (outcome-of line s) refl (leb-true longest (length room) e))
     by-room false e = rw e (omega arith)
 
--- Where the loop stands: the box, the bytes taken and those to be printed, and everything lent.
-abbrev pub stood : Node → ℕ → ℕ → List ℕ → List ℕ → List ℕ → Telling
-stood node at to terms orders room =
-    record { answer = record { node = node; taken = at; bytes = to }; terms = terms; orders = orders; room = room }
+-- Where the loop is: the places lie within, what was answered up to here and what is left make the whole, and of the record is known what was at first.
+pub record Reached (known : Bool) (n : Record) (bytes terms₀ orders₀ room₀ : List ℕ) (b : Record) (at to : ℕ) (terms orders room : List ℕ) : Type 0 where
+  pub inside : at ≤ length bytes
+  pub within : to ≤ length room
+  pub long : length room ≡ length room₀
+  pub whole : telling n bytes terms₀ orders₀ room₀ ≡ tell (reached b at to terms orders room) (lines (drop at bytes))
+  pub knows : Known known b terms orders
 
-module _ (bytes : List ℕ) (node : Node) (at to end : ℕ) (terms orders room : List ℕ) (h : at ≤ length bytes)
-    (e : end ≡ at + first-line (drop at bytes)) where
+-- at first nothing is answered
+pub reached-first : {known : Bool} {n : Record} {bytes terms orders room : List ℕ} → Known known n terms orders
+    → Reached known n bytes terms orders room n 0 0 terms orders room
+unfolding telling
+reached-first k = record { inside = omega arith; within = omega arith; long = refl; whole = refl; knows = k }
+
+module _ {known : Bool} {n : Record} {bytes terms₀ orders₀ room₀ : List ℕ} {b : Record} {at to : ℕ} {terms orders room : List ℕ}
+    (k : Reached known n bytes terms₀ orders₀ room₀ b at to terms orders room) {end : ℕ} (e : end ≡ at + first-line (drop at bytes)) where
+  -- the line's end lies within the bytes
+  pub end-inside : end ≤ length bytes
+  end-inside = omega (arith, e, first-most (drop at bytes), length-drop at bytes, k .inside)
+
   -- no whole line is left, or no room for one more answer
   pub block-stops : (eqb end at || ltb (length room - to) longest) ≡ true
-      → tell (stood node at to terms orders room) (lines (drop at bytes)) ≡ stood node at to terms orders room
+      → Tells n bytes terms₀ orders₀ room₀ (record { state = b; taken = at; bytes = to }) terms orders room
   unfolding tell
-  block-stops q = go (eqb end at) refl
+  block-stops q = sym (k .whole ∙ go (eqb end at) refl)
     where
-      short : (ls : List (List ℕ)) → length room - to < longest → tell (stood node at to terms orders room) ls ≡ stood node at to terms orders room
-      short [] k = refl
-      short (l ∷ ls) k = rw (lt-leb longest (length room - to) k)
+      short : (ls : List (List ℕ)) → length room - to < longest → tell (reached b at to terms orders room) ls ≡ reached b at to terms orders room
+      short [] h = refl
+      short (l ∷ ls) h = rw (lt-leb longest (length room - to) h)
 
-      go : (b : Bool) → eqb end at ≡ b
-          → tell (stood node at to terms orders room) (lines (drop at bytes)) ≡ stood node at to terms orders room
-      go true p = rw (lines-end bytes at h (omega (arith, e, eqb-true end at p)) .0)
+      go : (x : Bool) → eqb end at ≡ x
+          → tell (reached b at to terms orders room) (lines (drop at bytes)) ≡ reached b at to terms orders room
+      go true p = rw (lines-end bytes at (k .inside) (omega (arith, e, eqb-true end at p)) .0)
       go false p = short (lines (drop at bytes)) (ltb-true (length room - to) longest (rw p at q))
 
-  -- one line more
-  pub block-goes : (eqb end at || ltb (length room - to) longest) ≡ false
-      → (end ≡ at → ⊥) × (longest ≤ length room - to)
-  block-goes q = go (eqb end at) refl (ltb (length room - to) longest) refl
-    where
-      go : (a : Bool) → eqb end at ≡ a → (b : Bool) → ltb (length room - to) longest ≡ b → (end ≡ at → ⊥) × (longest ≤ length room - to)
-      go true p b r = absurd (true≢false (sym (rw p) ∙ q))
-      go false p true r = absurd (true≢false (sym (rw (p, r)) ∙ q))
-      go false p false r = (eqb-false end at p, ltb-false (length room - to) longest r)
+  -- otherwise both are there
+  pub record Goes : Type 0 where
+    pub further : at < end
+    pub wide : longest ≤ length room - to
 
-  pub block-next : (eqb end at || ltb (length room - to) longest) ≡ false → (one : Answered) {terms' orders' part : List ℕ}
-      → _≡_ {A = Saying} (record { answer = one; terms = terms'; orders = orders'; room = part })
-      (saying node (take (end - at) (drop at bytes)) terms orders (take (length room - to) (drop to room)))
-      → tell (stood node at to terms orders room) (lines (drop at bytes))
-      ≡ tell (stood (one .node) end (to + one .bytes) terms' orders' (take to room ++ (part ++ drop (length room - to) (drop to room))))
-      (lines (drop end bytes))
-  unfolding tell told
-  block-next q one {terms'} {orders'} {part} a =
-      let goes = block-goes q in
-      let some : first-line (drop at bytes) ≡ 0 → ⊥ = λ z. goes .0 (omega (arith, e, z)) in
-      let gone : end - at ≡ first-line (drop at bytes) = omega (arith, e) in
-      let long : at + length (take (end - at) (drop at bytes)) ≡ end =
-      omega (arith, e, gone, first-most (drop at bytes), length-take (end - at) (drop at bytes)) in
-      rw (
-        lines-next bytes at h some .0,
-        ← e,
-        ← gone,
-        le-leb longest (length room - to) (goes .1),
-        drop-of-length-le (drop to room) {i = length room - to} (simp length-drop (omega arith)),
-        append-nil part,
-        ← rest-whole room to,
-        ← a,
-        long,
-      )
+  module _ (q : (eqb end at || ltb (length room - to) longest) ≡ false) where
+    pub block-goes : Goes
+    block-goes = go (eqb end at) refl (ltb (length room - to) longest) refl
+      where
+        go : (x : Bool) → eqb end at ≡ x → (y : Bool) → ltb (length room - to) longest ≡ y → Goes
+        go true p y r = absurd (true≢false (sym (rw p) ∙ q))
+        go false p true r = absurd (true≢false (sym (rw (p, r)) ∙ q))
+        go false p false r =
+            let other : end ≡ at → ⊥ = eqb-false end at p in
+            record { further = omega (arith, e, other); wide = ltb-false (length room - to) longest r }
 
--- the answer stays within the room, which stays as long as it was
-pub block-room : (node : Node) (line terms orders room : List ℕ) (to : ℕ) → to ≤ length room → (one : Answered) {terms' orders' part : List ℕ}
-    → _≡_ {A = Saying} (record { answer = one; terms = terms'; orders = orders'; room = part })
-    (saying node line terms orders (take (length room - to) (drop to room)))
-    → to + one .bytes ≤ length room
-block-room node line terms orders room to h one e =
-    let most = saying-most node line terms orders (take (length room - to) (drop to room)) in
-    omega (
-      arith,
-      ap (λ (x : Saying). x .answer .bytes) e,
-      most,
-      length-take (length room - to) (drop to room),
-      length-drop to room,
-    )
+    -- the room that is left
+    abbrev rest : List ℕ
+    rest = take (length room - to) (drop to room)
 
-pub block-long : (room part : List ℕ) (to : ℕ) → to ≤ length room → length part ≡ length (take (length room - to) (drop to room))
-    → length (take to room ++ (part ++ drop (length room - to) (drop to room))) ≡ length room
-block-long room part to h e =
-    simp (length-append, length-take, length-drop, e) (omega arith)
+    rest-long : length rest ≡ length room - to
+    rest-long = omega (arith, length-take (length room - to) (drop to room), length-drop to room)
+
+    pub rest-wide : longest ≤ length rest
+    rest-wide = omega (arith, block-goes .wide, rest-long)
+
+    module _ {one : Answered} {terms' orders' part : List ℕ} (a : Says b (take (end - at) (drop at bytes)) terms orders rest one terms' orders' part) where
+      -- the answer stays within it
+      pub one-within : to + one .bytes ≤ length room
+      one-within =
+          let most = saying-most b (take (end - at) (drop at bytes)) terms orders rest in
+          omega (arith, ap (λ (x : Saying). x .answer .bytes) a, most, rest-long, k .within)
+
+      -- one line more
+      one-told : tell (reached b at to terms orders room) (lines (drop at bytes))
+          ≡ tell (reached (one .state) end (to + one .bytes) terms' orders' (take to room ++ (part ++ drop (length room - to) (drop to room))))
+          (lines (drop end bytes))
+      unfolding tell told
+      one-told =
+          let goes = block-goes in
+          let some : first-line (drop at bytes) ≡ 0 → ⊥ = λ z. omega (arith, e, z, goes .further) in
+          let gone : end - at ≡ first-line (drop at bytes) = omega (arith, e) in
+          let long : at + length (take (end - at) (drop at bytes)) ≡ end =
+          omega (arith, e, gone, first-most (drop at bytes), length-take (end - at) (drop at bytes)) in
+          rw (
+            lines-next bytes at (k .inside) some .0,
+            ← e,
+            ← gone,
+            le-leb longest (length room - to) (goes .wide),
+            drop-of-length-le (drop to room) {i = length room - to} (simp length-drop (omega arith)),
+            append-nil part,
+            ← rest-whole room to,
+            ← a,
+            long,
+          )
+
+      pub block-next : Known known (one .state) terms' orders' → length part ≡ length rest
+          → Reached known n bytes terms₀ orders₀ room₀ (one .state) end (to + one .bytes) terms' orders'
+          (take to room ++ (part ++ drop (length room - to) (drop to room)))
+      block-next knows same =
+          record {
+            inside = end-inside;
+            within = omega (arith, one-within, long);
+            long = long ∙ k .long;
+            whole = k .whole ∙ one-told;
+            knows = knows;
+          }
+        where
+          long : length (take to room ++ (part ++ drop (length room - to) (drop to room))) ≡ length room
+          long = simp (length-append, length-take, length-drop, same) (omega (arith, k .within))

@@ -1,18 +1,21 @@
 -- The calls: what an answer to a line leaves in everything lent. Assumes nothing.
-use Prim.Native.Nat.{ℕ, _+_, _-_}
-use mathlib.Core.Bool.{true, false, cond}
+use Prim.Native.Nat.{ℕ, _+_, _-_, _*_, _≤_}
+use mathlib.Core.Path.{_≡_}
+use mathlib.Core.Bool.{Bool, true, false, cond}
 use mathlib.Core.List.{List, [], _∷_, _++_}
 use lib.Dec.{leb}
 use lib.ListN.{length, take, drop}
 use Rattle.digits.specs.Room.{over}
-use Rattle.raft.specs.Record.{fresh}
+use Rattle.frames.specs.Limits.{log-limit}
+use Rattle.raft.specs.Record.{fresh, good}
 use Rattle.raft.specs.Lent.{terms-of, orders-of}
 use Rattle.raft.specs.Journal.{head}
 use Rattle.raft.specs.Outcome.{Outcome, done, refuse}
 use Rattle.journal.specs.LongestLaws.{longest-line, longest-messages}
 use Rattle.journal.specs.Lines.{lines, box-in, mask-in, head-shaped}
-use Rattle.record.specs.declared.Node.{Node}
-use Rattle.record.specs.Calls.{state-of, node-of, begun}
+use Rattle.record.specs.declared.Record.{Record}
+use Rattle.record.specs.declared.Started.{Started}
+use Rattle.record.specs.Calls.{state-of, record-of, begun}
 use Rattle.record.specs.Calls as calls
 use Rattle.console.specs.declared.Begun.{Begun}
 use Rattle.console.specs.declared.Answered.{Answered}
@@ -34,8 +37,8 @@ pub record Beginning : Type 0 where
   pub answer : Begun
   pub room : List ℕ
 
-abbrev pub none : Node
-none = node-of (fresh 0 0)
+abbrev pub none : Record
+none = record-of (fresh 0 0)
 
 unfoldable pub beginning : List ℕ → List ℕ → Beginning
 beginning line room =
@@ -46,16 +49,16 @@ beginning line room =
           record {
             fits = true;
             started = true;
-            node = node-of (fresh (box-in line) (mask-in line));
+            state = record-of (fresh (box-in line) (mask-in line));
             bytes = length (head (box-in line) (mask-in line));
           };
       room = over room 0 (head (box-in line) (mask-in line));
     })
     (record {
-      answer = record { fits = true; started = false; node = none; bytes = length (refusal-line 12) };
+      answer = record { fits = true; started = false; state = none; bytes = length (refusal-line 12) };
       room = over room 0 (refusal-line 12);
     }))
-    (record { answer = record { fits = false; started = false; node = none; bytes = 0 }; room = room })
+    (record { answer = record { fits = false; started = false; state = none; bytes = 0 }; room = room })
 
 -- ---- a later line
 
@@ -66,26 +69,26 @@ pub record Saying : Type 0 where
   pub room : List ℕ
 
 -- The next box and its log, and what is printed at the room's start; a refusal leaves box and log.
-unfoldable pub said : Outcome → Node → List ℕ → List ℕ → List ℕ → Saying
+unfoldable pub said : Outcome → Record → List ℕ → List ℕ → List ℕ → Saying
 said (done t messages) b terms orders room =
     record {
-      answer = record { fits = true; node = node-of t; bytes = length (printed (state-of b terms orders) (done t messages)) };
+      answer = record { fits = true; state = record-of t; bytes = length (printed (state-of b terms orders) (done t messages)) };
       terms = over terms 0 (terms-of (t .log));
       orders = over orders 0 (orders-of (t .log));
       room = over room 0 (printed (state-of b terms orders) (done t messages));
     }
 said (refuse number) b terms orders room =
     record {
-      answer = record { fits = true; node = b; bytes = length (refusal-line number) };
+      answer = record { fits = true; state = b; bytes = length (refusal-line number) };
       terms = terms;
       orders = orders;
       room = over room 0 (refusal-line number);
     }
 
-unfoldable pub saying : Node → List ℕ → List ℕ → List ℕ → List ℕ → Saying
+unfoldable pub saying : Record → List ℕ → List ℕ → List ℕ → List ℕ → Saying
 saying b line terms orders room =
     cond (leb longest (length room)) (said (outcome-of line (state-of b terms orders)) b terms orders room)
-    (record { answer = record { fits = false; node = b; bytes = 0 }; terms = terms; orders = orders; room = room })
+    (record { answer = record { fits = false; state = b; bytes = 0 }; terms = terms; orders = orders; room = room })
 
 -- ---- a block of lines
 
@@ -99,21 +102,79 @@ pub record Telling : Type 0 where
 abbrev pub behind : Telling → List ℕ → Saying → Telling
 behind x line s =
     record {
-      answer = record { node = s .answer .node; taken = x .answer .taken + length line; bytes = x .answer .bytes + s .answer .bytes };
+      answer = record { state = s .answer .state; taken = x .answer .taken + length line; bytes = x .answer .bytes + s .answer .bytes };
       terms = s .terms;
       orders = s .orders;
       room = take (x .answer .bytes) (x .room) ++ s .room;
     }
 
 unfoldable pub told : Telling → List ℕ → Telling
-told x line = behind x line (saying (x .answer .node) line (x .terms) (x .orders) (drop (x .answer .bytes) (x .room)))
+told x line = behind x line (saying (x .answer .state) line (x .terms) (x .orders) (drop (x .answer .bytes) (x .room)))
 
 -- Line by line, for as long as the room that is left holds the longest answer.
 unfoldable pub tell : Telling → List (List ℕ) → Telling
 tell x [] = x
 tell x (line ∷ rest) = cond (leb longest (length (x .room) - x .answer .bytes)) (tell (told x line) rest) x
 
+-- Where a block's lines were answered up to: the box, the bytes taken and those to be printed, and everything lent.
+abbrev pub reached : Record → ℕ → ℕ → List ℕ → List ℕ → List ℕ → Telling
+reached b at to terms orders room =
+    record { answer = record { state = b; taken = at; bytes = to }; terms = terms; orders = orders; room = room }
+
 -- The whole lines of some bytes.
-unfoldable pub telling : Node → List ℕ → List ℕ → List ℕ → List ℕ → Telling
-telling b bytes terms orders room =
-    tell (record { answer = record { node = b; taken = 0; bytes = 0 }; terms = terms; orders = orders; room = room }) (lines bytes)
+unfoldable pub telling : Record → List ℕ → List ℕ → List ℕ → List ℕ → Telling
+telling b bytes terms orders room = tell (reached b 0 0 terms orders room) (lines bytes)
+
+-- ---- as the contracts say it: the lent things before, the answer, and the lent things behind it
+
+-- A box is started by a line,
+abbrev pub Starts : (line room : List ℕ) → Started → (room' : List ℕ) → Type 0
+Starts line room answer room' = _≡_ {A = calls.Begun} (record { answer = answer; journal = room' }) (starts line room)
+
+-- a first line is answered,
+abbrev pub Begins : (line room : List ℕ) → Begun → (room' : List ℕ) → Type 0
+Begins line room answer room' = _≡_ {A = Beginning} (record { answer = answer; room = room' }) (beginning line room)
+
+-- a later line,
+abbrev pub Says : Record → (line terms orders room : List ℕ) → Answered → (terms' orders' room' : List ℕ) → Type 0
+Says b line terms orders room answer terms' orders' room' =
+    _≡_ {A = Saying} (record { answer = answer; terms = terms'; orders = orders'; room = room' }) (saying b line terms orders room)
+
+-- and a block's lines.
+abbrev pub Tells : Record → (bytes terms orders room : List ℕ) → Taken → (terms' orders' room' : List ℕ) → Type 0
+Tells b bytes terms orders room answer terms' orders' room' =
+    _≡_ {A = Telling} (record { answer = answer; terms = terms'; orders = orders'; room = room' }) (telling b bytes terms orders room)
+
+-- What was taken of a block and what is to be printed lie within what was lent.
+pub record Within (bytes room : List ℕ) (r : Taken) : Type 0 where
+  pub taken : r .taken ≤ length bytes
+  pub printed : r .bytes ≤ length room
+
+-- A text is put at a place of a room: the place behind it, and the room that holds it.
+pub record Puts (room : List ℕ) (at : ℕ) (text : List ℕ) (end : ℕ) (room' : List ℕ) : Type 0 where
+  pub behind : end ≡ at + length text
+  pub holds : room' ≡ over room at text
+
+-- What the inside calls require: the log is lent whole, and it is known whether the record is good.
+pub record Known (known : Bool) (b : Record) (terms orders : List ℕ) : Type 0 where
+  pub terms-long : length terms ≡ log-limit
+  pub orders-long : length orders ≡ log-limit
+  pub is : known ≡ good (state-of b terms orders)
+
+-- Besides, room for any answer, and aside for any messages.
+pub record Roomy (room messages : List ℕ) : Type 0 where
+  pub answers : longest ≤ length room
+  pub aside : longest-messages ≤ length messages
+
+-- What a log's text requires: that many entries are lent, and from a place on the room has 25 bytes for each.
+pub record Listable (terms orders : List ℕ) (last : ℕ) (room : List ℕ) (at : ℕ) : Type 0 where
+  pub terms-hold : last ≤ length terms
+  pub orders-hold : last ≤ length orders
+  pub wide : at + 25 * last ≤ length room
+
+-- What a record's text requires: the log is lent whole, the record's part of it fits, and the room holds any record: four numbers and 256 entries.
+pub record Showable (b : Record) (terms orders room : List ℕ) : Type 0 where
+  pub terms-long : length terms ≡ log-limit
+  pub orders-long : length orders ≡ log-limit
+  pub fits : b .last ≤ log-limit
+  pub wide : 6484 ≤ length room

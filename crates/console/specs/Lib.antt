@@ -4,10 +4,10 @@ pub mod Looking
 pub mod Calls
 pub mod LineLaws
 pub mod TextLaws
+pub mod GoodLaws
 pub mod SayingLaws
 pub mod BeginLaws
 pub mod BlockLaws
 pub mod LookingLaws
-pub mod GoodLaws
 pub mod SessionLaws
 pub mod RunLaws

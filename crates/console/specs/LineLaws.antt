@@ -12,11 +12,10 @@ use Rattle.digits.specs.Tests.{and-left, and-right}
 use Rattle.frames.specs.Message.{line-feed}
 use Rattle.frames.specs.Reading.{is-line}
 use Rattle.frames.specs.ReadingLaws.{line-run}
-use Rattle.raft.specs.Timeout.{timeout}
-use Rattle.raft.specs.Order.{order}
-use Rattle.raft.specs.Prompt.{prompt}
-use Rattle.raft.specs.Receive.{receive}
-use Rattle.console.specs.Session.{letter-t, letter-p, letter-o, is-letter, is-order, order-in, event-of}
+use Rattle.raft.specs.Record.{State, good}
+use Rattle.raft.specs.Outcome.{refuse}
+use Rattle.raft.specs.Event.{times-out, takes-order, is-prompted, receives, step}
+use Rattle.console.specs.Session.{letter-t, letter-p, letter-o, is-letter, is-order, order-in, event-of, outcome-of}
 
 -- ---- the form of a line
 
@@ -54,18 +53,30 @@ order-facts s h =
 
 -- ---- the event
 
-pub asks-timeout : (s : List ℕ) → is-letter letter-t s ≡ true → event-of s ≡ timeout
+pub asks-timeout : (s : List ℕ) → is-letter letter-t s ≡ true → event-of s ≡ times-out
 unfolding event-of
 asks-timeout s t = rw t
 
-pub asks-prompt : (s : List ℕ) → is-letter letter-t s ≡ false → is-letter letter-p s ≡ true → event-of s ≡ prompt
+pub asks-prompt : (s : List ℕ) → is-letter letter-t s ≡ false → is-letter letter-p s ≡ true → event-of s ≡ is-prompted
 unfolding event-of
 asks-prompt s t p = rw (t, p)
 
-pub asks-order : (s : List ℕ) → is-letter letter-t s ≡ false → is-letter letter-p s ≡ false → is-order s ≡ true → event-of s ≡ order (order-in s)
+pub asks-order : (s : List ℕ) → is-letter letter-t s ≡ false → is-letter letter-p s ≡ false → is-order s ≡ true → event-of s ≡ takes-order (order-in s)
 unfolding event-of
 asks-order s t p o = rw (t, p, o)
 
-pub asks-receive : (s : List ℕ) → is-letter letter-t s ≡ false → is-letter letter-p s ≡ false → is-order s ≡ false → event-of s ≡ receive s
+pub asks-receive : (s : List ℕ) → is-letter letter-t s ≡ false → is-letter letter-p s ≡ false → is-order s ≡ false → event-of s ≡ receives s
 unfolding event-of
 asks-receive s t p o = rw (t, p, o)
+
+-- ---- what it comes to
+
+-- the event's step, at a good record
+pub outcome-step : (line : List ℕ) (s : State) → good s ≡ true → outcome-of line s ≡ step (event-of line) s
+unfolding outcome-of
+outcome-step line s g = rw g
+
+-- any line is answered 12 at a record that is not good
+pub not-good : (line : List ℕ) (s : State) → good s ≡ false → outcome-of line s ≡ refuse 12
+unfolding outcome-of
+not-good line s g = rw g

@@ -14,7 +14,7 @@ use Rattle.raft.specs.SendLaws.{All}
 use Rattle.journal.specs.Lines.{lines}
 use Rattle.journal.specs.LinesLaws.{Feedless, Whole, strung, Split, split, split-lines, lines-none, lines-first}
 use Rattle.journal.specs.LongestLaws.{longest-message}
-use Rattle.record.specs.declared.Node.{Node}
+use Rattle.record.specs.declared.Record.{Record}
 use Rattle.record.specs.Calls.{state-of}
 use Rattle.console.specs.Session.{answers, talk, session}
 use Rattle.console.specs.Calls.{longest, Beginning, beginning, Telling, telling}
@@ -98,29 +98,29 @@ module _ (a b : List ℕ) (f : Feedless a) (g : Feedless b) (h : longest-message
 -- ---- the lines behind the first
 
 -- A box, its lent log, the bytes that the block holds, those that are to be read yet, and what is printed from here on.
-pub data Run : Node → List ℕ → List ℕ → List ℕ → List ℕ → List ℕ → Type 0 where
+pub data Run : Record → List ℕ → List ℕ → List ℕ → List ℕ → List ℕ → Type 0 where
   -- a call answers lines of the block and prints their answers
-  tells : {b : Node} {held terms orders input printed : List ℕ} (room : List ℕ) (y : Telling) → y ≡ telling b held terms orders room
-      → Run (y .answer .node) (y .terms) (y .orders) (drop (y .answer .taken) held) input printed
+  tells : {b : Record} {held terms orders input printed : List ℕ} (room : List ℕ) (y : Telling) → y ≡ telling b held terms orders room
+      → Run (y .answer .state) (y .terms) (y .orders) (drop (y .answer .taken) held) input printed
       → Run b terms orders held input (text-of y ++ printed)
   -- more is read behind what the block holds
-  reads : {b : Node} {held terms orders input printed : List ℕ} (block : List ℕ) → Run b terms orders (held ++ block) input printed
+  reads : {b : Record} {held terms orders input printed : List ℕ} (block : List ℕ) → Run b terms orders (held ++ block) input printed
       → Run b terms orders held (block ++ input) printed
   -- a call took nothing, and of a line that is too long already only a part is kept, that is too long too
-  shortens : {b : Node} {held terms orders input printed : List ℕ} (room : List ℕ) → longest ≤ length room
+  shortens : {b : Record} {held terms orders input printed : List ℕ} (room : List ℕ) → longest ≤ length room
       → telling b held terms orders room .answer .taken ≡ 0 → (n : ℕ) → longest-message < length (take n held)
       → Run b terms orders (take n held) input printed → Run b terms orders held input printed
   -- a call took nothing, and the input has ended
-  ends : {b : Node} {held terms orders : List ℕ} (room : List ℕ) → longest ≤ length room → telling b held terms orders room .answer .taken ≡ 0
+  ends : {b : Record} {held terms orders : List ℕ} (room : List ℕ) → longest ≤ length room → telling b held terms orders room .answer .taken ≡ 0
       → Run b terms orders held [] []
 
 -- **However the input is cut, what is printed is what the box has to print of all its lines.**
-pub run-prints : (b : Node) (terms orders held input printed : List ℕ) → Run b terms orders held input printed → length terms ≡ log-limit
+pub run-prints : (b : Record) (terms orders held input printed : List ℕ) → Run b terms orders held input printed → length terms ≡ log-limit
     → length orders ≡ log-limit → printed ≡ answers (state-of b terms orders) (lines (held ++ input))
 unfolding answers
 run-prints b terms orders held input text (tells {printed = printed} room y e r) p q =
     let t : Told b held terms orders y = rw e (tell-prints b held terms orders room p q) in
-    let rest = run-prints (y .answer .node) (y .terms) (y .orders) (drop (y .answer .taken) held) input printed r (t .terms-stay) (t .orders-stay) in
+    let rest = run-prints (y .answer .state) (y .terms) (y .orders) (drop (y .answer .taken) held) input printed r (t .terms-stay) (t .orders-stay) in
     ap (λ (l : List ℕ). text-of y ++ l) rest ∙ sym (t .prints-on input)
 run-prints b terms orders held _ printed (reads {input = input} block r) p q =
     rw (← append-assoc held block input) (run-prints b terms orders (held ++ block) input printed r p q)
@@ -152,13 +152,13 @@ pub data Program : List ℕ → List ℕ → List ℕ → Type 0 where
   -- it starts one: its answer is printed, and then what that box prints, whatever log is lent
   starts : {input printed : List ℕ} (first rest room terms orders : List ℕ) → Whole first → longest ≤ length room
       → beginning first room .answer .started ≡ true → length terms ≡ log-limit → length orders ≡ log-limit
-      → Run (beginning first room .answer .node) terms orders rest input printed → Program (first ++ rest) input (begun-text first room ++ printed)
+      → Run (beginning first room .answer .state) terms orders rest input printed → Program (first ++ rest) input (begun-text first room ++ printed)
 
 -- The session of a first line and what is behind it.
 begun-session : (first rest input room terms orders : List ℕ) → Whole first → longest ≤ length room
     → session (first ++ rest ++ input)
     ≡ begun-text first room
-    ++ cond (beginning first room .answer .started) (answers (state-of (beginning first room .answer .node) terms orders) (lines (rest ++ input))) []
+    ++ cond (beginning first room .answer .started) (answers (state-of (beginning first room .answer .state) terms orders) (lines (rest ++ input))) []
 begun-session first rest input room terms orders w wide =
     rw (append-assoc first rest input)
     (session-begins (first ++ (rest ++ input)) first (lines (rest ++ input)) room (lines-first first (rest ++ input) w) wide terms orders)
@@ -175,7 +175,7 @@ program-prints held input printed (stops none) = sym (session-none (held ++ []) 
 program-prints _ input printed (refuses first rest room w wide not) =
     sym (begun-session first rest input room [] [] w wide ∙ rw (not, append-nil (begun-text first room)))
 program-prints _ input _ (starts {printed = printed} first rest room terms orders w wide is p q r) =
-    let behind = run-prints (beginning first room .answer .node) terms orders rest input printed r p q in
+    let behind = run-prints (beginning first room .answer .state) terms orders rest input printed r p q in
     ap (λ (l : List ℕ). begun-text first room ++ l) behind ∙ sym (begun-session first rest input room terms orders w wide ∙ rw is)
 
 -- From nothing held: the whole input.
@@ -185,7 +185,7 @@ program-session input printed r = program-prints [] input printed r
 -- ---- and there is such a run
 
 -- Called again and again, the program comes to where nothing is taken, since each call before takes something.
-calls-end : (n : ℕ) (b : Node) (terms orders held room : List ℕ) → length held ≤ n → longest ≤ length room → length terms ≡ log-limit
+calls-end : (n : ℕ) (b : Record) (terms orders held room : List ℕ) → length held ≤ n → longest ≤ length room → length terms ≡ log-limit
     → length orders ≡ log-limit → (printed : List ℕ) × Run b terms orders held [] printed
 calls-end zero b terms orders held room l wide p q =
     let none : telling b held terms orders room .answer .taken ≡ 0 = omega (arith, tell-prints b held terms orders room p q .taken) in
@@ -193,14 +193,16 @@ calls-end zero b terms orders held room l wide p q =
 calls-end (suc n) b terms orders held room l wide p q =
     let t = tell-prints b held terms orders room p q in
     go (eqb (y .answer .taken) 0) refl
-    (λ some. calls-end n (y .answer .node) (y .terms) (y .orders) (drop (y .answer .taken) held) room (omega (arith, some, length-drop (y .answer .taken) held)) wide (t .terms-stay) (t .orders-stay))
+    (λ some.
+    let less : length (drop (y .answer .taken) held) ≤ n = omega (arith, some, length-drop (y .answer .taken) held) in
+    calls-end n (y .answer .state) (y .terms) (y .orders) (drop (y .answer .taken) held) room less wide (t .terms-stay) (t .orders-stay))
   where
     y : Telling
     y = telling b held terms orders room
 
     go : (e : Bool) → eqb (y .answer .taken) 0 ≡ e
         → (1 ≤ y .answer .taken
-        → (printed : List ℕ) × Run (y .answer .node) (y .terms) (y .orders) (drop (y .answer .taken) held) [] printed)
+        → (printed : List ℕ) × Run (y .answer .state) (y .terms) (y .orders) (drop (y .answer .taken) held) [] printed)
         → (printed : List ℕ) × Run b terms orders held [] printed
     go true e more = ([], ends room wide (eqb-true (y .answer .taken) 0 e))
     go false e more =
@@ -210,7 +212,7 @@ calls-end (suc n) b terms orders held room l wide p q =
 
 module _ (room terms orders : List ℕ) (wide : longest ≤ length room) (p : length terms ≡ log-limit) (q : length orders ≡ log-limit) where
   -- So whatever a box holds and reads, there is a run of it,
-  pub run-there : (b : Node) (held input : List ℕ) → Run b terms orders held input (answers (state-of b terms orders) (lines (held ++ input)))
+  pub run-there : (b : Record) (held input : List ℕ) → Run b terms orders held input (answers (state-of b terms orders) (lines (held ++ input)))
   run-there b held input =
       let all = calls-end (length (held ++ input)) b terms orders (held ++ input) room (omega arith) wide p q in
       let same : all .0 ≡ answers (state-of b terms orders) (lines (held ++ input)) =
@@ -227,7 +229,7 @@ module _ (room terms orders : List ℕ) (wide : longest ≤ length room) (p : le
 
       go : (b : Bool) → x .answer .started ≡ b → (printed : List ℕ) × Program (first ++ rest) [] printed
       go true e =
-          (begun-text first room ++ _, starts first rest room terms orders w wide e p q (run-there (x .answer .node) rest []))
+          (begun-text first room ++ _, starts first rest room terms orders w wide e p q (run-there (x .answer .state) rest []))
       go false e = (begun-text first room, refuses first rest room w wide e)
 
   -- and whatever the program reads, there is one of it.

@@ -11,10 +11,7 @@ use Rattle.raft.specs.Record.{State, fresh, good}
 use Rattle.raft.specs.Sends.{texts}
 use Rattle.raft.specs.Journal.{head, journaled}
 use Rattle.raft.specs.Outcome.{Outcome, done, refuse}
-use Rattle.raft.specs.Timeout.{timeout}
-use Rattle.raft.specs.Order.{order}
-use Rattle.raft.specs.Prompt.{prompt}
-use Rattle.raft.specs.Receive.{receive}
+use Rattle.raft.specs.Event.{Event, times-out, takes-order, is-prompted, receives, step}
 use Rattle.journal.specs.Lines.{lines, box-in, mask-in}
 use Rattle.journal.specs.Opening.{is-head}
 
@@ -45,12 +42,14 @@ unfoldable pub order-in : List ℕ → ℕ
 order-in s = field (drop 1 s) 0 8
 
 -- "Each later line is a frame, `t` (timeout), `p` (prompt) or `o` with 16 digits (order)". "Any other line, or one too long, is `n1`": it is not one frame.
-unfoldable pub event-of : List ℕ → State → Outcome
-event-of s = cond (is-letter letter-t s) timeout (cond (is-letter letter-p s) prompt (cond (is-order s) (order (order-in s)) (receive s)))
+unfoldable pub event-of : List ℕ → Event
+event-of s =
+    cond (is-letter letter-t s) times-out
+    (cond (is-letter letter-p s) is-prompted (cond (is-order s) (takes-order (order-in s)) (receives s)))
 
 -- What a line comes to at a box: 12 first, as at every event.
 unfoldable pub outcome-of : List ℕ → State → Outcome
-outcome-of line s = cond (good s) (event-of line s) (refuse 12)
+outcome-of line s = cond (good s) (step (event-of line) s) (refuse 12)
 
 -- ---- what it prints
 

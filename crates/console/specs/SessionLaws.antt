@@ -9,32 +9,30 @@ use lib.ListN.{length, take, drop, length-append, length-drop, take-append-drop}
 use lib.Seq.{length-take-le, drop-at, take-append-add}
 use borrow.Author.Tests.{eqb-true, leb-true, le-leb}
 use Rattle.digits.specs.Room.{over}
-use Rattle.digits.specs.RoomLaws.{length-over}
 use Rattle.digits.specs.Tests.{and-right}
 use Rattle.frames.specs.Limits.{log-limit}
 use Rattle.frames.specs.Message.{text}
 use Rattle.frames.specs.Reading.{is-line, version, kind}
 use Rattle.frames.specs.OneSpelling.{refused-when}
 use Rattle.raft.specs.Record.{State, fresh, is-membership, good}
-use Rattle.raft.specs.RecordLaws.{good-facts, fresh-good}
+use Rattle.raft.specs.RecordLaws.{fresh-good}
 use Rattle.raft.specs.Journal.{head}
-use Rattle.raft.specs.Lent.{entries-of, terms-of, orders-of}
-use Rattle.raft.specs.LentLaws.{terms-long, orders-long}
+use Rattle.raft.specs.Lent.{entries-of}
 use Rattle.raft.specs.Outcome.{Outcome, done, refuse}
 use Rattle.raft.specs.Receive.{arrive-read, receive}
+use Rattle.raft.specs.Event.{step}
 use Rattle.raft.specs.SendLaws.{All}
 use Rattle.journal.specs.Lines.{lines, whole-bytes, box-in, mask-in, head-shaped}
 use Rattle.journal.specs.LinesLaws.{Whole, strung, strung-append, lines-first, lines-whole, whole-lines}
 use Rattle.journal.specs.LongestLaws.{longest-message, text-most}
-use Rattle.record.specs.declared.Node.{Node}
+use Rattle.record.specs.declared.Record.{Record}
 use Rattle.record.specs.Calls.{state-of}
 use Rattle.console.specs.Session.{letter-t, letter-p, outcome-of, printed, next-of, refusal-line, answers, is-start, talk, session}
-use Rattle.console.specs.Calls.{longest, Beginning, beginning, Saying, said, saying, Telling, told, tell, telling}
-use Rattle.console.specs.LineLaws.{letter-long, order-long, asks-receive}
+use Rattle.console.specs.Calls.{longest, Beginning, beginning, Saying, said, saying, Telling, told, tell, reached, telling, Known}
+use Rattle.console.specs.LineLaws.{letter-long, order-long, asks-receive, outcome-step, not-good}
 use Rattle.console.specs.TextLaws.{taken-back}
 use Rattle.console.specs.BeginLaws.{unshaped, shaped}
-use Rattle.console.specs.BlockLaws.{stood}
-use Rattle.console.specs.GoodLaws.{outcome-good, next-lent}
+use Rattle.console.specs.GoodLaws.{next-lent, known-stays}
 
 -- ---- one line
 
@@ -43,55 +41,48 @@ over-within : (room text : List ℕ) → length text ≤ length (over room 0 tex
 unfolding over
 over-within room text = simp length-append (omega arith)
 
-module _ (line : List ℕ) (b : Node) (terms orders room : List ℕ) where
+module _ (line : List ℕ) (b : Record) (terms orders room : List ℕ) where
   abbrev s : State
   s = state-of b terms orders
 
   -- What the answer to a line leaves: its text at the room's start, and in the struct and the lent log the next record.
-  record Says (y : Saying) : Type 0 where
+  record Leaves (known : Bool) (y : Saying) : Type 0 where
     text : take (y .answer .bytes) (y .room) ≡ printed s (outcome-of line s)
-    next : state-of (y .answer .node) (y .terms) (y .orders) ≡ next-of s (outcome-of line s)
-    stays : good s ≡ good (state-of (y .answer .node) (y .terms) (y .orders))
-    terms-stay : length (y .terms) ≡ log-limit
-    orders-stay : length (y .orders) ≡ log-limit
+    next : state-of (y .answer .state) (y .terms) (y .orders) ≡ next-of s (outcome-of line s)
+    knows : Known known (y .answer .state) (y .terms) (y .orders)
     within : y .answer .bytes ≤ length (y .room)
 
   -- So it is, whatever the line comes to, since a log fits.
-  says : length terms ≡ log-limit → length orders ≡ log-limit → longest ≤ length room → Says (saying b line terms orders room)
+  leaves : {known : Bool} → Known known b terms orders → longest ≤ length room → Leaves known (saying b line terms orders room)
   unfolding saying said printed next-of
-  says p q wide = rw (le-leb longest (length room) wide) (go (outcome-of line s) refl)
+  leaves {known} k wide = go (outcome-of line s) refl
     where
-      same : (o : Outcome) → outcome-of line s ≡ o → said o b terms orders room ≡ saying b line terms orders room
-      same o k = rw (le-leb longest (length room) wide, k)
+      knows : Known known (saying b line terms orders room .answer .state) (saying b line terms orders room .terms) (saying b line terms orders room .orders)
+      knows = known-stays line room k wide refl
 
-      go : (o : Outcome) → outcome-of line s ≡ o → Says (said (outcome-of line s) b terms orders room)
-      go (done t ms) k =
-          let stayed = outcome-good line s t ms k in
-          let fits = good-facts t (stayed .after) .room in
-          let lent = next-lent line b terms orders room p q wide (said (done t ms) b terms orders room .answer) (same (done t ms) k) t ms k in
-          rw k (record {
-            text = rw k (taken-back room (printed s (done t ms)));
-            next = rw k lent;
-            stays = stayed .before ∙ sym (ap good lent ∙ stayed .after);
-            terms-stay = length-over terms 0 (terms-of (t .log)) (omega (arith, terms-long (t .log), p)) ∙ p;
-            orders-stay = length-over orders 0 (orders-of (t .log)) (omega (arith, orders-long (t .log), q)) ∙ q;
-            within = over-within room (printed s (done t ms));
-          })
-      go (refuse n) k =
-          rw k (record {
-            text = rw k (taken-back room (refusal-line n));
-            next = rw k;
-            stays = refl;
-            terms-stay = p;
-            orders-stay = q;
-            within = over-within room (refusal-line n);
-          })
+      go : (o : Outcome) → outcome-of line s ≡ o → Leaves known (saying b line terms orders room)
+      go (done t ms) e =
+          let wide' = le-leb longest (length room) wide in
+          record {
+            text = rw (wide', e) (taken-back room (printed s (done t ms)));
+            next = rw (wide', e) (next-lent t terms orders);
+            knows = knows;
+            within = rw (wide', e) (over-within room (printed s (done t ms)));
+          }
+      go (refuse n) e =
+          let wide' = le-leb longest (length room) wide in
+          record {
+            text = rw (wide', e) (taken-back room (refusal-line n));
+            next = rw (wide', e);
+            knows = knows;
+            within = rw (wide', e) (over-within room (refusal-line n));
+          }
 
 -- ---- a block of lines
 
 -- The record of a box that has answered some lines.
 abbrev pub box-of : Telling → State
-box-of x = state-of (x .answer .node) (x .terms) (x .orders)
+box-of x = state-of (x .answer .state) (x .terms) (x .orders)
 
 -- The text that is printed of it.
 abbrev pub text-of : Telling → List ℕ
@@ -102,60 +93,45 @@ text-behind : (n m : ℕ) (a d : List ℕ) → n ≤ length a → take (n + m) (
 text-behind n m a d h =
     ap (λ (k : ℕ). take (k + m) (take n a ++ d)) (sym (length-take-le n a h)) ∙ take-append-add (take n a) d m
 
+-- A place is sound where the lent log is whole, and what is printed lies in the room.
+record Sound (known : Bool) (x : Telling) : Type 0 where
+  knows : Known known (x .answer .state) (x .terms) (x .orders)
+  within : x .answer .bytes ≤ length (x .room)
+
 -- From one place of a block to a later one: some lines were taken, and what is printed and what is left to print make the same whole.
-record Goes (x : Telling) (ls : List (List ℕ)) (y : Telling) : Type 0 where
+record Goes (known : Bool) (x : Telling) (ls : List (List ℕ)) (y : Telling) : Type 0 where
   took : List (List ℕ)
   left : List (List ℕ)
   both : ls ≡ took ++ left
   taken : y .answer .taken ≡ x .answer .taken + length (strung took)
   prints : (more : List (List ℕ)) → text-of x ++ answers (box-of x) (ls ++ more) ≡ text-of y ++ answers (box-of y) (left ++ more)
-  stays : good (box-of x) ≡ good (box-of y)
-  terms-stay : length (y .terms) ≡ log-limit
-  orders-stay : length (y .orders) ≡ log-limit
-  within : y .answer .bytes ≤ length (y .room)
-
--- A place is sound where the lent log is whole, and what is printed lies in the room.
-record Sound (x : Telling) : Type 0 where
-  terms-stay : length (x .terms) ≡ log-limit
-  orders-stay : length (x .orders) ≡ log-limit
-  within : x .answer .bytes ≤ length (x .room)
+  sound : Sound known y
 
 -- Nothing taken: all is as it was.
-goes-nowhere : (x : Telling) (ls : List (List ℕ)) → Sound x → Goes x ls x
+goes-nowhere : {known : Bool} (x : Telling) (ls : List (List ℕ)) → Sound known x → Goes known x ls x
 unfolding strung
 goes-nowhere x ls k =
-    record {
-      took = [];
-      left = ls;
-      both = refl;
-      taken = omega arith;
-      prints = λ more. refl;
-      stays = refl;
-      terms-stay = k .terms-stay;
-      orders-stay = k .orders-stay;
-      within = k .within;
-    }
+    record { took = []; left = ls; both = refl; taken = omega arith; prints = λ more. refl; sound = k }
 
-module _ (x : Telling) (line : List ℕ) (k : Sound x) (wide : longest ≤ length (x .room) - x .answer .bytes) where
+module _ {known : Bool} (x : Telling) (line : List ℕ) (k : Sound known x) (wide : longest ≤ length (x .room) - x .answer .bytes) where
   -- The answer to one line more, in the room that is left.
   abbrev rest : List ℕ
   rest = drop (x .answer .bytes) (x .room)
 
   abbrev one : Saying
-  one = saying (x .answer .node) line (x .terms) (x .orders) rest
+  one = saying (x .answer .state) line (x .terms) (x .orders) rest
 
-  one-says : Says line (x .answer .node) (x .terms) (x .orders) rest one
-  one-says =
-      says line (x .answer .node) (x .terms) (x .orders) rest (k .terms-stay) (k .orders-stay) (rw (length-drop (x .answer .bytes) (x .room)) wide)
+  one-leaves : Leaves line (x .answer .state) (x .terms) (x .orders) rest known one
+  one-leaves =
+      leaves line (x .answer .state) (x .terms) (x .orders) rest (k .knows) (rw (length-drop (x .answer .bytes) (x .room)) wide)
 
   -- It leaves a place that is sound.
-  told-sound : Sound (told x line)
+  told-sound : Sound known (told x line)
   unfolding told
   told-sound =
       record {
-        terms-stay = one-says .terms-stay;
-        orders-stay = one-says .orders-stay;
-        within = rw (length-append, length-take-le (x .answer .bytes) (x .room) (k .within)) (omega (arith, one-says .within));
+        knows = one-leaves .knows;
+        within = rw (length-append, length-take-le (x .answer .bytes) (x .room) (k .within)) (omega (arith, one-leaves .within));
       }
 
   -- Its text stands behind what was printed, and the box that it leaves is the next: so what is printed and what is left to print stay the same whole.
@@ -166,13 +142,13 @@ module _ (x : Telling) (line : List ℕ) (k : Sound x) (wide : longest ≤ lengt
       let outcome = outcome-of line (box-of x) in
       rw (
         text-behind (x .answer .bytes) (one .answer .bytes) (x .room) (one .room) (k .within),
-        one-says .text,
-        one-says .next,
+        one-leaves .text,
+        one-leaves .next,
         append-assoc (text-of x) (printed (box-of x) outcome) (answers (next-of (box-of x) outcome) ls),
       )
 
   -- Then the lines behind it.
-  goes-on : (ls : List (List ℕ)) (y : Telling) → Goes (told x line) ls y → Goes x (line ∷ ls) y
+  goes-on : (ls : List (List ℕ)) (y : Telling) → Goes known (told x line) ls y → Goes known x (line ∷ ls) y
   unfolding told strung
   goes-on ls y g =
       record {
@@ -181,20 +157,18 @@ module _ (x : Telling) (line : List ℕ) (k : Sound x) (wide : longest ≤ lengt
         both = ap (λ (l : List (List ℕ)). line ∷ l) (g .both);
         taken = g .taken ∙ rw (length-append line (strung (g .took))) (omega arith);
         prints = λ more. told-prints (ls ++ more) ∙ g .prints more;
-        stays = one-says .stays ∙ g .stays;
-        terms-stay = g .terms-stay;
-        orders-stay = g .orders-stay;
-        within = g .within;
+        sound = g .sound;
       }
 
 -- Line by line, up to where no line or no room is left.
-goes : (x : Telling) (ls : List (List ℕ)) → Sound x → Goes x ls (tell x ls)
+goes : {known : Bool} (x : Telling) (ls : List (List ℕ)) → Sound known x → Goes known x ls (tell x ls)
 unfolding tell
 goes x [] k = goes-nowhere x [] k
-goes x (line ∷ ls) k = go (leb longest (length (x .room) - x .answer .bytes)) refl (goes (told x line) ls)
+goes {known} x (line ∷ ls) k = go (leb longest (length (x .room) - x .answer .bytes)) refl (goes (told x line) ls)
   where
-    go : (b : Bool) → leb longest (length (x .room) - x .answer .bytes) ≡ b → (Sound (told x line) → Goes (told x line) ls (tell (told x line) ls))
-        → Goes x (line ∷ ls) (cond b (tell (told x line) ls) x)
+    go : (b : Bool) → leb longest (length (x .room) - x .answer .bytes) ≡ b
+        → (Sound known (told x line) → Goes known (told x line) ls (tell (told x line) ls))
+        → Goes known x (line ∷ ls) (cond b (tell (told x line) ls) x)
     go true e more =
         let wide = leb-true longest (length (x .room) - x .answer .bytes) e in
         goes-on x line k wide ls (tell (told x line) ls) (more (told-sound x line k wide))
@@ -253,7 +227,7 @@ module _ (bytes : List ℕ) (took left : List (List ℕ)) (both : lines bytes �
 
 -- What a call leaves, of a box and some bytes: the text that it prints, and what the box then has to print of the bytes that are left, make all that the
 -- box had to print; and so they do whatever more is read. A good record stays good, the lent log stays whole.
-pub record Told (b : Node) (bytes terms orders : List ℕ) (y : Telling) : Type 0 where
+pub record Told (b : Record) (bytes terms orders : List ℕ) (y : Telling) : Type 0 where
   pub prints : answers (state-of b terms orders) (lines bytes) ≡ text-of y ++ answers (box-of y) (lines (drop (y .answer .taken) bytes))
   pub prints-on : (more : List ℕ)
       → answers (state-of b terms orders) (lines (bytes ++ more)) ≡ text-of y ++ answers (box-of y) (lines (drop (y .answer .taken) bytes ++ more))
@@ -264,25 +238,27 @@ pub record Told (b : Node) (bytes terms orders : List ℕ) (y : Telling) : Type 
   pub within : y .answer .bytes ≤ length (y .room)
 
 -- So it is for every record, good or not, any bytes and any room: line by line, by what one line prints and leaves.
-pub tell-prints : (b : Node) (bytes terms orders room : List ℕ) → length terms ≡ log-limit → length orders ≡ log-limit
+pub tell-prints : (b : Record) (bytes terms orders room : List ℕ) → length terms ≡ log-limit → length orders ≡ log-limit
     → Told b bytes terms orders (telling b bytes terms orders room)
 unfolding telling
 tell-prints b bytes terms orders room p q =
     record {
       prints = rw (append-nil bytes, append-nil (drop (y .answer .taken) bytes)) at (on []);
       prints-on = on;
-      stays = g .stays;
-      terms-stay = g .terms-stay;
-      orders-stay = g .orders-stay;
+      stays = g .sound .knows .is;
+      terms-stay = g .sound .knows .terms-long;
+      orders-stay = g .sound .knows .orders-long;
       taken = omega (arith, g .taken, taken-most bytes (g .took) (g .left) (g .both));
-      within = g .within;
+      within = g .sound .within;
     }
   where
     y : Telling
     y = telling b bytes terms orders room
 
-    g : Goes (stood b 0 0 terms orders room) (lines bytes) y
-    g = goes (stood b 0 0 terms orders room) (lines bytes) (record { terms-stay = p; orders-stay = q; within = omega arith })
+    g : Goes (good (state-of b terms orders)) (reached b 0 0 terms orders room) (lines bytes) y
+    g =
+        goes (reached b 0 0 terms orders room) (lines bytes)
+        (record { knows = record { terms-long = p; orders-long = q; is = refl }; within = omega arith })
 
     on : (more : List ℕ)
         → answers (state-of b terms orders) (lines (bytes ++ more)) ≡ text-of y ++ answers (box-of y) (lines (drop (y .answer .taken) bytes ++ more))
@@ -307,7 +283,7 @@ tell-more x (line ∷ ls) = go (leb longest (length (x .room) - x .answer .bytes
 whole-some : (line : List ℕ) → Whole line → 1 ≤ length line
 whole-some line w = omega (arith, simp length-append at (ap length (w .ended)))
 
-module _ (b : Node) (bytes terms orders room : List ℕ) (wide : longest ≤ length room) where
+module _ (b : Record) (bytes terms orders room : List ℕ) (wide : longest ≤ length room) where
   -- With room for the longest answer, the first whole line is taken.
   pub progress : (lines bytes ≡ [] → ⊥) → 1 ≤ telling b bytes terms orders room .answer .taken
   unfolding telling tell told All
@@ -317,16 +293,16 @@ module _ (b : Node) (bytes terms orders room : List ℕ) (wide : longest ≤ len
       go [] e = absurd (some e)
       go (line ∷ ls) e =
           let long = whole-some line ((rw e at (lines-whole bytes)) .0) in
-          let more = tell-more (told (stood b 0 0 terms orders room) line) ls in
+          let more = tell-more (told (reached b 0 0 terms orders room) line) ls in
           rw (e, le-leb longest (length room - 0) (omega arith)) (omega (arith, long, more))
 
   -- So where nothing is taken no whole line is left, nothing is printed, and the box and the lent log are as they were.
   pub all-told : telling b bytes terms orders room .answer .taken ≡ 0
-      → (lines bytes ≡ []) × (telling b bytes terms orders room ≡ stood b 0 0 terms orders room)
+      → (lines bytes ≡ []) × (telling b bytes terms orders room ≡ reached b 0 0 terms orders room)
   unfolding telling tell
   all-told none = go (lines bytes) refl
     where
-      go : (ls : List (List ℕ)) → lines bytes ≡ ls → (lines bytes ≡ []) × (telling b bytes terms orders room ≡ stood b 0 0 terms orders room)
+      go : (ls : List (List ℕ)) → lines bytes ≡ ls → (lines bytes ≡ []) × (telling b bytes terms orders room ≡ reached b 0 0 terms orders room)
       go [] e = (e, rw e)
       go (line ∷ ls) e =
           absurd (omega (arith, none, progress (λ z. let never : _≡_ {A = ℕ} 0 1 = cc in omega arith)))
@@ -340,19 +316,14 @@ receive-long line s h = rw (refused-when line (λ m o z e. omega (arith, text-mo
 
 -- and they are no letter and no order.
 pub too-long : (line : List ℕ) (s : State) → longest-message < length line → good s ≡ true → outcome-of line s ≡ refuse 1
-unfolding outcome-of
+unfolding step
 too-long line s h g =
     let t = letter-long letter-t line (λ e. omega arith) in
     let p = letter-long letter-p line (λ e. omega arith) in
     let o = order-long line (λ e. omega arith) in
-    rw (g, asks-receive line t p o, receive-long line s h)
+    rw (outcome-step line s g, asks-receive line t p o) (receive-long line s h)
 
--- Any line is answered 12 at a record that is not good.
-not-good : (line : List ℕ) (s : State) → good s ≡ false → outcome-of line s ≡ refuse 12
-unfolding outcome-of
-not-good line s g = rw g
-
--- So two lines that are too long come to the same, at any record, whatever of them is kept.
+-- Any line is answered 12 at a record that is not good (`not-good`). So two lines that are too long come to the same, at any record, whatever of them is kept.
 pub shortened-same : (a b : List ℕ) (s : State) → longest-message < length a → longest-message < length b → outcome-of a s ≡ outcome-of b s
 shortened-same a b s h k = go (good s) refl
   where
@@ -390,12 +361,12 @@ module _ (bytes first : List ℕ) (rest : List (List ℕ)) (room : List ℕ) (e 
 
   -- A first line: what the answer to it prints, and behind it, where it starts a box, the answers of that box to the lines behind it, whatever log is lent.
   pub session-begins : (terms orders : List ℕ)
-      → session bytes ≡ take (x .answer .bytes) (x .room) ++ cond (x .answer .started) (answers (state-of (x .answer .node) terms orders) rest) []
+      → session bytes ≡ take (x .answer .bytes) (x .room) ++ cond (x .answer .started) (answers (state-of (x .answer .state) terms orders) rest) []
   unfolding session talk beginning fresh entries-of
   session-begins terms orders = go (is-start first) refl
     where
       go : (b : Bool) → is-start first ≡ b
-          → session bytes ≡ take (x .answer .bytes) (x .room) ++ cond (x .answer .started) (answers (state-of (x .answer .node) terms orders) rest) []
+          → session bytes ≡ take (x .answer .bytes) (x .room) ++ cond (x .answer .started) (answers (state-of (x .answer .state) terms orders) rest) []
       go true p = rw (e, le-leb longest (length room) wide, p, taken-back room (head (box-in first) (mask-in first)))
       go false p = rw (e, le-leb longest (length room) wide, p, taken-back room (refusal-line 12), append-nil (refusal-line 12))
 
@@ -409,7 +380,7 @@ module _ (bytes first : List ℕ) (rest : List (List ℕ)) (room : List ℕ) (e 
       go false p = rw (le-leb longest (length room) wide, p)
 
   -- and is good, whatever log is lent.
-  pub begins-good : (terms orders : List ℕ) → x .answer .started ≡ true → good (state-of (x .answer .node) terms orders) ≡ true
+  pub begins-good : (terms orders : List ℕ) → x .answer .started ≡ true → good (state-of (x .answer .state) terms orders) ≡ true
   unfolding beginning fresh entries-of
   begins-good terms orders s =
       let head : is-start first ≡ true = sym begins-exactly ∙ s in

@@ -2,33 +2,41 @@
 mod blocks;
 mod lines;
 mod looking;
-mod text;
+mod printing;
 
 pub use blocks::answer_lines;
 pub use lines::answer;
 pub use lines::begin;
 pub use looking::asked;
 pub use looking::show;
-use record::Node;
+use record::Record;
 
 // The first line's answer: false and nothing done where the room is shorter than the longest answer; whether a box was started; how many bytes are to be printed.
 pub struct Begun {
     pub fits: bool,
     pub started: bool,
-    pub node: Node,
+    pub state: Record,
     pub bytes: usize,
 }
 
 // A later line's answer: as above, with the next box.
 pub struct Answered {
     pub fits: bool,
-    pub node: Node,
+    pub state: Record,
     pub bytes: usize,
+}
+
+impl Answered {
+    // The longest answer: a journal line of 119 bytes and the longest messages.
+    pub const LONGEST: usize = 905;
+
+    // The longest messages: six appends of four entries. More room for them changes nothing that anyone sees.
+    pub const MESSAGES: usize = 786;
 }
 
 // What was made of a block of lines: the next box, how many bytes of whole lines were taken, and how many are to be printed.
 pub struct Taken {
-    pub node: Node,
+    pub state: Record,
     pub taken: usize,
     pub bytes: usize,
 }

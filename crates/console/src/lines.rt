@@ -1,22 +1,20 @@
 // A line, and what the box answers.
 use crate::Answered;
 use crate::Begun;
-use crate::text::put;
-use crate::text::put_refusal;
-use record::Node;
+use crate::printing::put;
+use crate::printing::put_refusal;
+use record::Record;
 use record::Started;
 use record::Step;
 ghost use mathlib.Core.Path.{_≡_};
 ghost use mathlib.Core.Bool.{true};
 ghost use Prim.Native.Nat.{_≤_};
 ghost use lib.ListN.{length};
-ghost use Rattle.frames.specs.Limits.{log-limit};
-ghost use Rattle.raft.specs.Record.{good};
-ghost use Rattle.record.specs.Calls.{state-of, Called, call};
-ghost use Rattle.record.specs.Calls as calls;
+ghost use Rattle.record.specs.Calls.{state-of, Runs};
 ghost use Rattle.console.specs.Session as definition;
-ghost use Rattle.console.specs.Calls.{longest, starts, Beginning, beginning, Saying, saying};
+ghost use Rattle.console.specs.Calls.{Starts, Begins, Says, Known, Roomy};
 
+// "`t` (timeout), `p` (prompt)": the letter and its line feed.
 fn is_letter(letter: u8, s: &[u8]) -> bool
     ensures { λ r. ⌜ r ≡ definition.is-letter letter (now (s .entry)) ⌝ }
 {
@@ -26,6 +24,7 @@ fn is_letter(letter: u8, s: &[u8]) -> bool
     (s[0] == letter) & (s[1] == 10)
 }
 
+// "`o` with 16 digits (order)"
 fn is_order(s: &[u8]) -> bool
     ensures { λ r. ⌜ r ≡ definition.is-order (now (s .entry)) ⌝ }
 {
@@ -38,6 +37,7 @@ fn is_order(s: &[u8]) -> bool
     frame_reader::is_line(&s[1..])
 }
 
+// Its order: the 16 digits behind the letter.
 fn order_in(s: &[u8]) -> u64
     requires { ⌜ definition.is-order (now s) ≡ true ⌝ }
     ensures { λ r. ⌜ r ≡ definition.order-in (now (s .entry)) ⌝ }
@@ -45,39 +45,39 @@ fn order_in(s: &[u8]) -> u64
     digits::get_u64(&s[1..], 0)
 }
 
-// The event that a line asks for, at a record of which it is known whether it is good.
+// What a line comes to, at a record of which it is known whether it is good: 12, or the event that it asks for.
 fn step(
-    n: Node,
+    n: Record,
     known: bool,
     line: &[u8],
     terms: &mut [u32],
     orders: &mut [u64],
     journal: &mut [u8],
-    room: &mut [u8],
+    messages: &mut [u8],
 ) -> Step
-    requires { ⌜ length (now terms) ≡ log-limit ⌝ }
-    requires { ⌜ length (now orders) ≡ log-limit ⌝ }
-    requires { ⌜ known ≡ good (state-of n (now terms) (now orders)) ⌝ }
-    ensures { λ r. ⌜ _≡_ {A = Called} (record { answer = r; terms = now (terms .exit); orders = now (orders .exit); journal = now (journal .exit); room = now (room .exit) }) (call (definition.event-of (now (line .entry))) n (now (terms .entry)) (now (orders .entry)) (now (journal .entry)) (now (room .entry))) ⌝ }
+    requires { ⌜ Known known n (now terms) (now orders) ⌝ }
+    ensures { λ r. ⌜ Runs (definition.outcome-of (now (line .entry)) (state-of n (now (terms .entry)) (now (orders .entry)))) n
+        (now (terms .entry)) (now (orders .entry)) (now (journal .entry)) (now (messages .entry)) r
+        (now (terms .exit)) (now (orders .exit)) (now (journal .exit)) (now (messages .exit)) ⌝ }
 {
     if !known {
-        return writing::refused(n, 12);
+        return finishing::refused(n, 12);
     }
     if is_letter(b't', line) {
-        return events::run_timeout(n, &terms[..], &orders[..], journal, room);
+        return events::run_timeout(n, &terms[..], &orders[..], journal, messages);
     }
     if is_letter(b'p', line) {
-        return events::run_prompt(n, &terms[..], &orders[..], journal, room);
+        return events::run_prompt(n, &terms[..], &orders[..], journal, messages);
     }
     if is_order(line) {
-        return events::run_order(n, order_in(line), terms, orders, journal, room);
+        return events::run_order(n, order_in(line), terms, orders, journal, messages);
     }
-    node::run_bytes(n, line, terms, orders, journal, room)
+    messages::run_bytes(n, line, terms, orders, journal, messages)
 }
 
 // The answer to a line, at the room's start. The messages are written aside, since they stand behind a journal line whose length comes with them.
 pub fn answer_known(
-    n: Node,
+    n: Record,
     known: bool,
     line: &[u8],
     terms: &mut [u32],
@@ -85,109 +85,93 @@ pub fn answer_known(
     room: &mut [u8],
     messages: &mut [u8],
 ) -> Answered
-    requires { ⌜ length (now terms) ≡ log-limit ⌝ }
-    requires { ⌜ length (now orders) ≡ log-limit ⌝ }
-    requires { ⌜ known ≡ good (state-of n (now terms) (now orders)) ⌝ }
-    requires { ⌜ longest ≤ length (now room) ⌝ }
-    requires { ⌜ 786 ≤ length (now messages) ⌝ }
-    ensures { λ r. ⌜ _≡_ {A = Saying} (record { answer = r; terms = now (terms .exit); orders = now (orders .exit); room = now (room .exit) }) (saying n (now (line .entry)) (now (terms .entry)) (now (orders .entry)) (now (room .entry))) ⌝ }
-    ensures { λ r. ⌜ known ≡ good (state-of (r .node) (now (terms .exit)) (now (orders .exit))) ⌝ }
+    requires { ⌜ Known known n (now terms) (now orders) ⌝ }
+    requires { ⌜ Roomy (now room) (now messages) ⌝ }
+    ensures { λ r. ⌜ Says n (now (line .entry)) (now (terms .entry)) (now (orders .entry)) (now (room .entry)) r
+        (now (terms .exit)) (now (orders .exit)) (now (room .exit)) ⌝ }
+    ensures { λ r. ⌜ Known known (r .state) (now (terms .exit)) (now (orders .exit)) ⌝ }
 {
     let done = step(n, known, line, terms, orders, room, messages);
-    let node = done.node;
+    let state = done.state;
     if done.refusal == 0 {
         put(room, done.line, &messages[..done.sent]);
         return Answered {
             fits: true,
-            node,
+            state,
             bytes: done.line + done.sent,
         };
     }
     let bytes = put_refusal(room, done.refusal);
     Answered {
         fits: true,
-        node,
+        state,
         bytes,
     }
 }
 
-fn answer_on(
-    n: Node,
+// A line with its line feed, at a box: its journal line and messages, or its refusal, at the room's start.
+pub fn answer(
+    n: Record,
     line: &[u8],
-    terms: &mut [u32],
-    orders: &mut [u64],
+    terms: &mut [u32; Record::LOG],
+    orders: &mut [u64; Record::LOG],
     room: &mut [u8],
 ) -> Answered
-    requires { ⌜ length (now terms) ≡ log-limit ⌝ }
-    requires { ⌜ length (now orders) ≡ log-limit ⌝ }
-    ensures { λ r. ⌜ _≡_ {A = Saying} (record { answer = r; terms = now (terms .exit); orders = now (orders .exit); room = now (room .exit) }) (saying n (now (line .entry)) (now (terms .entry)) (now (orders .entry)) (now (room .entry))) ⌝ }
+    ensures { λ r. ⌜ Says n (now (line .entry)) (now (terms .entry)) (now (orders .entry)) (now (room .entry)) r
+        (now (terms .exit)) (now (orders .exit)) (now (room .exit)) ⌝ }
 {
-    if room.len() < 905 {
+    if room.len() < Answered::LONGEST {
         return Answered {
             fits: false,
-            node: n,
+            state: n,
             bytes: 0,
         };
     }
     let known = changes::is_good(n, &terms[..]);
-    // Room for six appends of four entries; more of it changes nothing that anyone sees.
-    let mut messages = [0u8; 786];
+    let mut messages = [0u8; Answered::MESSAGES];
     answer_known(n, known, line, terms, orders, room, &mut messages)
-}
-
-// A line with its line feed, at a box: its journal line and messages, or its refusal, at the room's start.
-pub fn answer(
-    n: Node,
-    line: &[u8],
-    terms: &mut [u32; Node::LOG],
-    orders: &mut [u64; Node::LOG],
-    room: &mut [u8],
-) -> Answered
-    ensures { λ r. ⌜ _≡_ {A = Saying} (record { answer = r; terms = now (terms .exit); orders = now (orders .exit); room = now (room .exit) }) (saying n (now (line .entry)) (now (terms .entry)) (now (orders .entry)) (now (room .entry))) ⌝ }
-{
-    answer_on(n, line, terms, orders, room)
 }
 
 // Starts the box of a head; a line that has not the form of one starts none.
 fn start(line: &[u8], room: &mut [u8]) -> Started
-    ensures { λ r. ⌜ _≡_ {A = calls.Begun} (record { answer = r; room = now (room .exit) }) (starts (now (line .entry)) (now (room .entry))) ⌝ }
+    ensures { λ r. ⌜ Starts (now (line .entry)) (now (room .entry)) r (now (room .exit)) ⌝ }
 {
     if !opening::is_head_shaped(line) {
-        return node::start(0, 0, room);
+        return events::start(0, 0, room);
     }
-    node::start(digits::get_u8(line, 4), digits::get_u8(line, 6), room)
+    events::start(digits::get_u8(line, 4), digits::get_u8(line, 6), room)
 }
 
 // The first line: it starts the box whose head it is.
 pub fn begin(line: &[u8], room: &mut [u8]) -> Begun
-    ensures { λ r. ⌜ _≡_ {A = Beginning} (record { answer = r; room = now (room .exit) }) (beginning (now (line .entry)) (now (room .entry))) ⌝ }
+    ensures { λ r. ⌜ Begins (now (line .entry)) (now (room .entry)) r (now (room .exit)) ⌝ }
     ensures { λ r. ⌜ r .bytes ≤ length (now (room .entry)) ⌝ }
 {
-    if room.len() < 905 {
-        let none = node::start(0, 0, room);
-        let node = none.node;
+    if room.len() < Answered::LONGEST {
+        let none = events::start(0, 0, room);
+        let state = none.state;
         return Begun {
             fits: false,
             started: false,
-            node,
+            state,
             bytes: 0,
         };
     }
     let done = start(line, room);
-    let node = done.node;
+    let state = done.state;
     if done.refusal != 0 {
         let bytes = put_refusal(room, 12);
         return Begun {
             fits: true,
             started: false,
-            node,
+            state,
             bytes,
         };
     }
     Begun {
         fits: true,
         started: true,
-        node,
+        state,
         bytes: done.bytes,
     }
 }

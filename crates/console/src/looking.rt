@@ -1,15 +1,16 @@
 // The program `replay`: the box asked for, and a record as text.
-use crate::text::put_decimal;
-use record::Node;
+use crate::printing::put_decimal;
+use record::Record;
 ghost use mathlib.Core.Path.{_≡_};
-ghost use Prim.Native.Nat.{_+_, _*_, _≤_};
+ghost use Prim.Native.Nat.{_+_, _≤_};
 ghost use lib.ListN.{length};
 ghost use Rattle.digits.specs.Room.{over};
-ghost use Rattle.frames.specs.Limits.{log-limit};
 ghost use Rattle.raft.specs.Lent.{entries-of};
 ghost use Rattle.record.specs.Calls.{state-of};
 ghost use Rattle.console.specs.Looking.{asks, asked-box, numbered, first-shown, log-shown, shown};
+ghost use Rattle.console.specs.Calls.{Puts, Listable, Showable};
 
+// "a first line with one digit, the box asked for"
 fn is_asking(s: &[u8]) -> bool
     ensures { λ r. ⌜ r ≡ asks (now (s .entry)) ⌝ }
 {
@@ -32,8 +33,7 @@ pub fn asked(line: &[u8]) -> u8
 // A number and the character behind it; answers the place behind both.
 fn put_number(room: &mut [u8], at: usize, n: u64, behind: u8) -> usize
     requires { ⌜ at + 21 ≤ length (now room) ⌝ }
-    ensures { λ r. ⌜ r ≡ at + length (numbered n behind) ⌝ }
-    ensures { λ _. ⌜ now (room .exit) ≡ over (now (room .entry)) at (numbered n behind) ⌝ }
+    ensures { λ r. ⌜ Puts (now (room .entry)) at (numbered n behind) r (now (room .exit)) ⌝ }
     ensures { λ r. ⌜ r ≤ at + 21 ⌝ }
 {
     let end = put_decimal(room, at, n, 20);
@@ -44,8 +44,7 @@ fn put_number(room: &mut [u8], at: usize, n: u64, behind: u8) -> usize
 // The first line; answers its bytes.
 fn put_first(room: &mut [u8], bytes: u64, term: u32, vote: u8, last: u16) -> usize
     requires { ⌜ 84 ≤ length (now room) ⌝ }
-    ensures { λ r. ⌜ r ≡ length (first-shown bytes term vote last) ⌝ }
-    ensures { λ _. ⌜ now (room .exit) ≡ over (now (room .entry)) 0 (first-shown bytes term vote last) ⌝ }
+    ensures { λ r. ⌜ Puts (now (room .entry)) 0 (first-shown bytes term vote last) r (now (room .exit)) ⌝ }
     ensures { λ r. ⌜ r ≤ 84 ⌝ }
 {
     let one = put_number(room, 0, bytes, b' ');
@@ -56,10 +55,9 @@ fn put_first(room: &mut [u8], bytes: u64, term: u32, vote: u8, last: u16) -> usi
 
 // So many entries of the lent log, each on a line of its own.
 fn put_log(room: &mut [u8], at: usize, terms: &[u32], orders: &[u64], last: usize)
-    requires { ⌜ last ≤ length (now terms) ⌝ }
-    requires { ⌜ last ≤ length (now orders) ⌝ }
-    requires { ⌜ at + 25 * last ≤ length (now room) ⌝ }
-    ensures { λ _. ⌜ now (room .exit) ≡ over (now (room .entry)) at (log-shown (entries-of (now (terms .entry)) (now (orders .entry)) 0 last)) ⌝ }
+    requires { ⌜ Listable (now terms) (now orders) last (now room) at ⌝ }
+    ensures { λ _. ⌜ now (room .exit) ≡ over (now (room .entry)) at
+        (log-shown (entries-of (now (terms .entry)) (now (orders .entry)) 0 last)) ⌝ }
 {
     let mut i = 0;
     while i < last {
@@ -69,14 +67,10 @@ fn put_log(room: &mut [u8], at: usize, terms: &[u32], orders: &[u64], last: usiz
     }
 }
 
-// A record as text, at the room's start; answers its bytes. (An inside call: 6,484 bytes hold any record.)
-pub fn show(n: Node, bytes: u64, terms: &[u32], orders: &[u64], room: &mut [u8]) -> usize
-    requires { ⌜ length (now terms) ≡ log-limit ⌝ }
-    requires { ⌜ length (now orders) ≡ log-limit ⌝ }
-    requires { ⌜ n .last ≤ log-limit ⌝ }
-    requires { ⌜ 6484 ≤ length (now room) ⌝ }
-    ensures { λ r. ⌜ r ≡ length (shown bytes (state-of n (now (terms .entry)) (now (orders .entry)))) ⌝ }
-    ensures { λ _. ⌜ now (room .exit) ≡ over (now (room .entry)) 0 (shown bytes (state-of n (now (terms .entry)) (now (orders .entry)))) ⌝ }
+// A record as text, at the room's start; answers its bytes. An inside call: four numbers and 256 entries, 6,484 bytes, hold any record.
+pub fn show(n: Record, bytes: u64, terms: &[u32], orders: &[u64], room: &mut [u8]) -> usize
+    requires { ⌜ Showable n (now terms) (now orders) (now room) ⌝ }
+    ensures { λ r. ⌜ Puts (now (room .entry)) 0 (shown bytes (state-of n (now (terms .entry)) (now (orders .entry)))) r (now (room .exit)) ⌝ }
     ensures { λ r. ⌜ r ≤ 6484 ⌝ }
 {
     let last = n.last;

@@ -1,42 +1,42 @@
 // 01's small program: a box on lines of text. It reads, has each line answered by the library, and prints.
 use libc::STDOUT_FILENO;
-use record::Node;
+use record::Record;
 ghost use Prim.Native.Nat.{_≤_};
 ghost use lib.ListN.{length};
 
 // What came of the lines of a block: the next box, the bytes taken, and whether all could be printed.
 struct Block {
-    node: Node,
+    state: Record,
     taken: usize,
     printed: bool,
 }
 
 // Answers the whole lines of a block, and prints the answers.
 fn answer_all(
-    n: Node,
+    n: Record,
     bytes: &[u8],
-    terms: &mut [u32; Node::LOG],
-    orders: &mut [u64; Node::LOG],
+    terms: &mut [u32; Record::LOG],
+    orders: &mut [u64; Record::LOG],
     output: &mut [u8],
 ) -> Block
     ensures { λ r. ⌜ r .taken ≤ length (now (bytes .entry)) ⌝ }
 {
-    let mut node = n;
+    let mut state = n;
     let mut at = 0;
     loop {
-        let done = console::answer_lines(node, &bytes[at..], terms, orders, output);
+        let done = console::answer_lines(state, &bytes[at..], terms, orders, output);
         if done.taken == 0 {
             return Block {
-                node,
+                state,
                 taken: at,
                 printed: true,
             };
         }
-        node = done.node;
+        state = done.state;
         at += done.taken;
         if !io::write_all(STDOUT_FILENO, &output[..done.bytes]) {
             return Block {
-                node,
+                state,
                 taken: at,
                 printed: false,
             };
@@ -46,27 +46,27 @@ fn answer_all(
 
 // The lines behind the first: those in the block already, then what is read.
 fn later_lines(
-    n: Node,
+    n: Record,
     input: &mut [u8],
     from: usize,
     filled: usize,
-    terms: &mut [u32; Node::LOG],
-    orders: &mut [u64; Node::LOG],
+    terms: &mut [u32; Record::LOG],
+    orders: &mut [u64; Record::LOG],
     output: &mut [u8],
 )
     requires { ⌜ from ≤ filled ⌝ }
     requires { ⌜ filled ≤ length (now input) ⌝ }
 {
-    let mut node = n;
+    let mut state = n;
     let mut at = from;
     let mut held = filled;
     let mut turns = u64::MAX;
     while turns > 0 {
-        let block = answer_all(node, &input[at..held], terms, orders, output);
+        let block = answer_all(state, &input[at..held], terms, orders, output);
         if !block.printed {
             return;
         }
-        node = block.node;
+        state = block.state;
         let left = reader::keep(input, at + block.taken, held);
         let kept = reader::shorten(&input[..], left);
         held = reader::more(input, kept);
@@ -88,11 +88,11 @@ fn run(input: &mut [u8], output: &mut [u8]) {
         return;
     }
     if begun.started {
-        let node = begun.node;
-        let mut terms = [0u32; Node::LOG];
-        let mut orders = [0u64; Node::LOG];
+        let state = begun.state;
+        let mut terms = [0u32; Record::LOG];
+        let mut orders = [0u64; Record::LOG];
         later_lines(
-            node,
+            state,
             input,
             first.end,
             first.held,

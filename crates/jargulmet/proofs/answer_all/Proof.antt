@@ -1,18 +1,22 @@
 -- Each turn takes a line; what is taken never passes the bytes.
 use borrow.Author.Needs.{needs}
-use lib.ListN.{drop, length-take, length-drop}
 use native.Mathlib.Omega.{arith}
-use Prim.Native.Nat.{_-_, _≤_}
+use Prim.Native.Nat.{ℕ, _-_, _≤_}
 use mathlib.Core.Path.{_≡_}
-use lib.ListN.{length}
+use mathlib.Core.List.{List}
+use lib.ListN.{length, drop, length-take, length-drop}
 use Rattle.jargulmet.proofs.answer_all.Statement.{statement}
 use Rattle.jargulmet.proofs.answer_all.Tie as tie
 
+record Here (bytes output₀ output : List ℕ) (at : ℕ) : Type 0 where
+  inside : at ≤ length bytes
+  long : length output ≡ length output₀
+
 abbrev Inv-loop : tie.InvT-loop
-Inv-loop bytes terms₀ orders₀ output₀ node₀ at₀ terms orders output node at = (at ≤ length bytes) × (length output ≡ length output₀)
+Inv-loop bytes terms₀ orders₀ output₀ state₀ at₀ terms orders output state at = Here bytes output₀ output at
 
 abbrev μ-loop : tie.MeasureT-loop
-μ-loop bytes terms₀ orders₀ output₀ node₀ at₀ terms orders output node at = length bytes - at
+μ-loop bytes terms₀ orders₀ output₀ state₀ at₀ terms orders output state at = length bytes - at
 
 loop-holds : tie.Need-loop-holds Inv-loop μ-loop
 loop-holds c = search needs
@@ -37,18 +41,21 @@ returns c = search needs
 
 add-at : tie.Need-add-at Inv-loop μ-loop
 add-at c =
-    let answer-lines = c .before .before .before .before .before .before .answer-lines in
-    let entered = c .before .before .before .before .before .before .before .before .before .before .before .before .before .before in
-    let loop = c .before .before .before .before .before .before .before .before .before .before .before .loop in
-    omega (arith, answer-lines .ensures .1 .0, length-take (length (entered .args .bytes .now) - loop .at) (drop (loop .at) (entered .args .bytes .now)), length-drop (loop .at) (entered .args .bytes .now), loop .inv .0, entered .good)
+    let at-answer-lines = c .before .before .before .before .before .before in
+    let at-loop = at-answer-lines .before .before .before .before .before in
+    let entered = at-loop .before .before .before in
+    let bytes = entered .args .bytes .now in
+    let at = at-loop .loop .at in
+    let part = length-take (length bytes - at) (drop at bytes) in
+    omega (arith, at-answer-lines .answer-lines .ensures .1 .taken, part, length-drop at bytes, at-loop .loop .inv .inside, entered .good)
 
 slice-reshare-prefix-write-all : tie.Need-slice-reshare-prefix-write-all Inv-loop μ-loop
 slice-reshare-prefix-write-all c = search needs
 
 slice-aggregate-write-all : tie.Need-slice-aggregate-write-all Inv-loop μ-loop
 slice-aggregate-write-all c =
-    let answer-lines = c .before .before .before .before .before .before .before .answer-lines in
-    simp length-take (omega (arith, answer-lines .ensures .1 .1, answer-lines .kept .1 .1 .1 .1 .0))
+    let at-answer-lines = c .before .before .before .before .before .before .before in
+    simp length-take (omega (arith, at-answer-lines .answer-lines .ensures .1 .printed, at-answer-lines .answer-lines .kept .1 .1 .1 .1 .0))
 
 write-all-requires : tie.Need-write-all-requires Inv-loop μ-loop
 write-all-requires c κs = search needs

@@ -19,8 +19,8 @@ slice-reshare-prefix-begin c = search needs
 
 slice-aggregate-begin : tie.Need-slice-aggregate-begin
 slice-aggregate-begin c =
-    let whole-line = c .before .before .before .before .before .whole-line in
-    simp length-take (omega (arith, whole-line .ensures .0, whole-line .ensures .1 .0, whole-line .kept .0))
+    let at-whole-line = c .before .before .before .before .before in
+    simp length-take (omega (arith, at-whole-line .whole-line .ensures .0, at-whole-line .whole-line .ensures .1 .0, at-whole-line .whole-line .kept .0))
 
 begin-requires : tie.Need-begin-requires
 begin-requires c κs = search needs
@@ -30,8 +30,8 @@ slice-reshare-prefix-write-all c = search needs
 
 slice-aggregate-write-all : tie.Need-slice-aggregate-write-all
 slice-aggregate-write-all c =
-    let begin = c .before .before .before .begin in
-    simp length-take (omega (arith, begin .ensures .1, begin .kept .1 .0))
+    let at-begin = c .before .before .before in
+    simp length-take (omega (arith, at-begin .begin .ensures .1, at-begin .begin .kept .1 .0))
 
 write-all-requires : tie.Need-write-all-requires
 write-all-requires c κs = search needs

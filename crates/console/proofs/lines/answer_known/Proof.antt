@@ -1,10 +1,8 @@
 -- The journal line at the start, the messages behind it (`said-done`); or the line of the refusal (`said-refused`).
 use borrow.Author.Needs.{needs}
 use native.Mathlib.Omega.{arith}
-use mathlib.Core.Path.{_∙_}
 use lib.ListN.{length-take}
 use Rattle.console.specs.SayingLaws.{step-sizes, said-done, said-refused}
-use Rattle.console.specs.GoodLaws.{saying-good}
 use Rattle.console.proofs.lines.answer_known.Statement.{statement}
 use Rattle.console.proofs.lines.answer_known.Tie as tie
 
@@ -13,31 +11,35 @@ step-requires c κs = search needs
 
 slice-reshare-prefix-put : tie.Need-slice-reshare-prefix-put
 slice-reshare-prefix-put c =
-    let entered = c .before .before .before .before .before .before .before .before .before .before .before .before .before .before .before .before .before .before .before .before .before .before in
-    let step = c .before .before .before .before .before .before .before .before .before .before .before .before .step in
-    let sizes = step-sizes (entered .args .line .now) (entered .args .n) (entered .args .terms .now) (entered .args .orders .now) (entered .args .room .now) (entered .args .messages .now) (entered .pre .1 .1 .1 .0) (entered .pre .1 .1 .1 .1) _ (step .ensures) in
-    omega (arith, sizes .1, step .kept .1 .1 .1 .1 .1 .1 .0, entered .pre .1 .1 .1 .1)
+    let at-step = c .before .before .before .before .before .before .before .before .before .before .before .before in
+    let entered = at-step .before .before .before .before .before .before .before .before .before .before in
+    let (knows, roomy) = entered .pre in
+    let sizes = step-sizes (entered .args .line .now) knows roomy (at-step .step .ensures) in
+    omega (arith, sizes .sent, at-step .step .kept .1 .1 .1 .1 .1 .1 .0, roomy .aside)
 
 slice-aggregate-put : tie.Need-slice-aggregate-put
 slice-aggregate-put c =
-    let entered = c .before .before .before .before .before .before .before .before .before .before .before .before .before .before .before .before .before .before .before .before .before .before .before in
-    let step = c .before .before .before .before .before .before .before .before .before .before .before .before .before .step in
-    let sizes = step-sizes (entered .args .line .now) (entered .args .n) (entered .args .terms .now) (entered .args .orders .now) (entered .args .room .now) (entered .args .messages .now) (entered .pre .1 .1 .1 .0) (entered .pre .1 .1 .1 .1) _ (step .ensures) in
-    simp length-take (omega (arith, sizes .1, step .kept .1 .1 .1 .1 .1 .1 .0, entered .pre .1 .1 .1 .1))
+    let at-step = c .before .before .before .before .before .before .before .before .before .before .before .before .before in
+    let entered = at-step .before .before .before .before .before .before .before .before .before .before in
+    let (knows, roomy) = entered .pre in
+    let sizes = step-sizes (entered .args .line .now) knows roomy (at-step .step .ensures) in
+    simp length-take (omega (arith, sizes .sent, at-step .step .kept .1 .1 .1 .1 .1 .1 .0, roomy .aside))
 
 put-requires : tie.Need-put-requires
 put-requires c κs =
-    let entered = c .before .before .before .before .before .before .before .before .before .before .before .before .before .before .before .before .before .before .before .before .before .before .before in
-    let step = c .before .before .before .before .before .before .before .before .before .before .before .before .before .step in
-    let sizes = step-sizes (entered .args .line .now) (entered .args .n) (entered .args .terms .now) (entered .args .orders .now) (entered .args .room .now) (entered .args .messages .now) (entered .pre .1 .1 .1 .0) (entered .pre .1 .1 .1 .1) _ (step .ensures) in
-    simp length-take (omega (arith, sizes .0, sizes .1, step .kept .1 .1 .1 .1 .1 .0, entered .pre .1 .1 .1 .0))
+    let at-step = c .before .before .before .before .before .before .before .before .before .before .before .before .before in
+    let entered = at-step .before .before .before .before .before .before .before .before .before .before in
+    let (knows, roomy) = entered .pre in
+    let sizes = step-sizes (entered .args .line .now) knows roomy (at-step .step .ensures) in
+    simp length-take (omega (arith, sizes .line, sizes .sent, at-step .step .kept .1 .1 .1 .1 .1 .0, roomy .answers))
 
 add-t25 : tie.Need-add-t25
 add-t25 c =
-    let entered = c .before .before .before .before .before .before .before .before .before .before .before .before .before .before .before .before .before .before .before .before .before .before .before .before .before .before .before in
-    let step = c .before .before .before .before .before .before .before .before .before .before .before .before .before .before .before .before .before .step in
-    let sizes = step-sizes (entered .args .line .now) (entered .args .n) (entered .args .terms .now) (entered .args .orders .now) (entered .args .room .now) (entered .args .messages .now) (entered .pre .1 .1 .1 .0) (entered .pre .1 .1 .1 .1) _ (step .ensures) in
-    omega (arith, sizes .0, sizes .1)
+    let at-step = c .before .before .before .before .before .before .before .before .before .before .before .before .before .before .before .before .before in
+    let entered = at-step .before .before .before .before .before .before .before .before .before .before in
+    let (knows, roomy) = entered .pre in
+    let sizes = step-sizes (entered .args .line .now) knows roomy (at-step .step .ensures) in
+    omega (arith, sizes .line, sizes .sent)
 
 same-length : tie.Need-same-length
 same-length c = search needs
@@ -53,18 +55,19 @@ same-length-4 c = search needs
 
 returns : tie.Need-returns
 returns c =
-    let entered = c .before .before .before .before .before .before .before .before .before .before .before .before .before .before .before .before .before .before .before .before .before .before .before .before .before .before .before in
-    let step = c .before .before .before .before .before .before .before .before .before .before .before .before .before .before .before .before .before .step in
-    let if1 = c .before .before .before .before .before .before .if1 in
-    let put = c .before .before .before .put in
-    let whole = said-done (entered .args .line .now) (entered .args .n) (entered .args .terms .now) (entered .args .orders .now) (entered .args .room .now) (entered .args .messages .now) (entered .pre .1 .1 .1 .0) (entered .pre .1 .1 .1 .1) _ (step .ensures) (if1 .taken) (put .ensures) in
-    (whole, entered .pre .1 .1 .0 ∙ saying-good (entered .args .line .now) (entered .args .n) (entered .args .terms .now) (entered .args .orders .now) (entered .args .room .now) (entered .pre .0) (entered .pre .1 .0) (entered .pre .1 .1 .1 .0) _ whole)
+    let at-put = c .before .before .before in
+    let at-if1 = at-put .before .before .before in
+    let at-step = at-if1 .before .before .before .before .before .before .before .before .before .before .before in
+    let entered = at-step .before .before .before .before .before .before .before .before .before .before in
+    let (knows, roomy) = entered .pre in
+    said-done (entered .args .line .now) knows roomy (at-step .step .ensures) (at-if1 .if1 .taken) (at-put .put .ensures)
 
 put-refusal-requires : tie.Need-put-refusal-requires
 put-refusal-requires c κs =
-    let step = c .before .before .before .before .before .before .before .before .before .before .before .before .step in
-    let entered = c .before .before .before .before .before .before .before .before .before .before .before .before .before .before .before .before .before .before .before .before .before .before in
-    omega (arith, step .kept .1 .1 .1 .1 .1 .0, entered .pre .1 .1 .1 .0)
+    let at-step = c .before .before .before .before .before .before .before .before .before .before .before .before in
+    let entered = at-step .before .before .before .before .before .before .before .before .before .before in
+    let roomy = entered .pre .1 in
+    omega (arith, at-step .step .kept .1 .1 .1 .1 .1 .0, roomy .answers)
 
 same-length-5 : tie.Need-same-length-5
 same-length-5 c = search needs
@@ -80,12 +83,12 @@ same-length-8 c = search needs
 
 returns-2 : tie.Need-returns-2
 returns-2 c =
-    let entered = c .before .before .before .before .before .before .before .before .before .before .before .before .before .before .before .before .before .before .before .before .before .before .before .before .before in
-    let step = c .before .before .before .before .before .before .before .before .before .before .before .before .before .before .before .step in
-    let if1 = c .before .before .before .before .if1 in
-    let put-refusal = c .before .before .put-refusal in
-    let whole = said-refused (entered .args .line .now) (entered .args .n) (entered .args .terms .now) (entered .args .orders .now) (entered .args .room .now) (entered .args .messages .now) (entered .pre .1 .1 .1 .0) (entered .pre .1 .1 .1 .1) _ (step .ensures) (if1 .left) (put-refusal .ensures .1) (put-refusal .ensures .0) in
-    (whole, entered .pre .1 .1 .0 ∙ saying-good (entered .args .line .now) (entered .args .n) (entered .args .terms .now) (entered .args .orders .now) (entered .args .room .now) (entered .pre .0) (entered .pre .1 .0) (entered .pre .1 .1 .1 .0) _ whole)
+    let at-put-refusal = c .before .before in
+    let at-if1 = at-put-refusal .before .before in
+    let at-step = at-if1 .before .before .before .before .before .before .before .before .before .before .before in
+    let entered = at-step .before .before .before .before .before .before .before .before .before .before in
+    let (knows, roomy) = entered .pre in
+    said-refused (entered .args .line .now) knows roomy (at-step .step .ensures) (at-if1 .if1 .left) (at-put-refusal .put-refusal .ensures)
 
 pub answer-known-spec : {M : Type 1} → statement M
 answer-known-spec =

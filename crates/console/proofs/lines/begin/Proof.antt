@@ -13,11 +13,12 @@ same-length c = search needs
 
 returns : tie.Need-returns
 returns c =
-    let entered = c .before .before .before .before .before .before .before .before in
-    let if1 = c .before .before .before .before .before .if1 in
-    let start = c .before .before .before .start in
-    let whole = begin-short (entered .args .line .now) (entered .args .room .now) (if1 .taken) (start-none (entered .args .room .now) (start .ensures)) in
-    (whole, begin-within (entered .args .line .now) (entered .args .room .now) _ whole)
+    let at-start = c .before .before .before in
+    let at-if1 = at-start .before .before in
+    let entered = at-if1 .before .before .before in
+    let a = entered .args in
+    let whole = begin-short (a .line .now) (a .room .now) (at-if1 .if1 .taken) (start-none (a .room .now) (at-start .start .ensures)) in
+    (whole, begin-within (a .line .now) (a .room .now) whole)
 
 start-requires-2 : tie.Need-start-requires-2
 start-requires-2 c κs = search needs
@@ -30,25 +31,26 @@ same-length-2 c = search needs
 
 returns-2 : tie.Need-returns-2
 returns-2 c =
-    let entered = c .before .before .before .before .before .before .before .before .before .before .before .before .before .before in
-    let if1 = c .before .before .before .before .before .before .before .before .before .before .before .if1 in
-    let start2 = c .before .before .before .before .before .before .before .before .before .start2 in
-    let if2 = c .before .before .before .before .if2 in
-    let put-refusal = c .before .before .put-refusal in
-    let whole = start-bad (entered .args .line .now) (entered .args .room .now) (omega (arith, if1 .left)) _ (start2 .ensures) (if2 .taken) (put-refusal .ensures .1) (put-refusal .ensures .0) in
-    (whole, begin-within (entered .args .line .now) (entered .args .room .now) _ whole)
+    let at-put-refusal = c .before .before in
+    let at-if2 = at-put-refusal .before .before in
+    let at-start2 = at-if2 .before .before .before .before .before in
+    let at-if1 = at-start2 .before .before in
+    let entered = at-if1 .before .before .before in
+    let a = entered .args in
+    let whole = start-bad (a .line .now) (a .room .now) (omega (arith, at-if1 .if1 .left)) (at-start2 .start2 .ensures) (at-if2 .if2 .taken) (at-put-refusal .put-refusal .ensures) in
+    (whole, begin-within (a .line .now) (a .room .now) whole)
 
 same-length-3 : tie.Need-same-length-3
 same-length-3 c = search needs
 
 returns-3 : tie.Need-returns-3
 returns-3 c =
-    let entered = c .before .before .before .before .before .before .before .before .before .before in
-    let if1 = c .before .before .before .before .before .before .before .if1 in
-    let start2 = c .before .before .before .before .before .start2 in
-    let if2 = c .if2 in
-    let whole = start-done (entered .args .line .now) (entered .args .room .now) (omega (arith, if1 .left)) _ (start2 .ensures) (if2 .left) in
-    (whole, begin-within (entered .args .line .now) (entered .args .room .now) _ whole)
+    let at-start2 = c .before .before .before .before .before in
+    let at-if1 = at-start2 .before .before in
+    let entered = at-if1 .before .before .before in
+    let a = entered .args in
+    let whole = start-done (a .line .now) (a .room .now) (omega (arith, at-if1 .if1 .left)) (at-start2 .start2 .ensures) (c .if2 .left) in
+    (whole, begin-within (a .line .now) (a .room .now) whole)
 
 pub begin-spec : {M : Type 1} → statement M
 begin-spec =

@@ -1,14 +1,11 @@
 -- 12 at a record that is not good; otherwise each case is the event that the line asks for.
 use borrow.Author.Needs.{needs}
-use mathlib.Core.Path.{sym, _∙_}
+use mathlib.Core.Path.{sym, ap, _∙_}
 use borrow.Author.Tests.{not-true, not-false}
-use Rattle.raft.specs.Timeout.{timeout}
-use Rattle.raft.specs.Order.{order}
-use Rattle.raft.specs.Prompt.{prompt}
-use Rattle.raft.specs.Receive.{receive}
-use Rattle.record.specs.CallLaws.{call-bad, call-good}
-use Rattle.console.specs.Session.{order-in, event-of}
+use Rattle.raft.specs.Event.{times-out, takes-order, is-prompted, receives}
 use Rattle.console.specs.LineLaws.{asks-timeout, asks-prompt, asks-order, asks-receive}
+use Rattle.console.specs.GoodLaws.{ready}
+use Rattle.console.specs.SayingLaws.{bad-left, event-left}
 use Rattle.console.proofs.lines.step.Statement.{statement}
 use Rattle.console.proofs.lines.step.Tie as tie
 
@@ -17,19 +14,19 @@ refused-requires c κs = search needs
 
 returns : tie.Need-returns
 returns c =
-    let refused = c .refused in
-    let entered = c .before .before .before .before .before .before .before in
-    let if1 = c .before .if1 in
-    rw (refused .ensures) (call-bad (event-of (entered .args .line .now)) (entered .args .n) (entered .args .terms .now) (entered .args .orders .now) (entered .args .journal .now) (entered .args .room .now) (sym (entered .pre .1 .1) ∙ not-true _ (if1 .taken)))
+    let at-if1 = c .before in
+    let entered = at-if1 .before .before .before .before .before .before in
+    let a = entered .args in
+    bad-left (a .line .now) (a .journal .now) (a .messages .now) (sym (entered .pre .is) ∙ not-true _ (at-if1 .if1 .taken)) (c .refused .ensures)
 
 is-letter-requires : tie.Need-is-letter-requires
 is-letter-requires c κs = search needs
 
 run-timeout-requires : tie.Need-run-timeout-requires
 run-timeout-requires c κs =
-    let entered = c .before .before .before .before .before .before .before .before .before .before .before .before in
-    let if1 = c .before .before .before .before .before .before .if1 in
-    (entered .pre .0, (entered .pre .1 .0, (sym (entered .pre .1 .1) ∙ not-false _ (if1 .left))))
+    let at-if1 = c .before .before .before .before .before .before in
+    let entered = at-if1 .before .before .before .before .before .before in
+    ready (entered .pre) (not-false _ (at-if1 .if1 .left))
 
 same-length : tie.Need-same-length
 same-length c = search needs
@@ -45,21 +42,24 @@ same-length-4 c = search needs
 
 returns-2 : tie.Need-returns-2
 returns-2 c =
-    let entered = c .before .before .before .before .before .before .before .before .before .before .before .before .before .before .before .before .before in
-    let is-letter = c .before .before .before .before .before .before .before .before .before .before .is-letter in
-    let if2 = c .before .before .before .before .before .before .before .before .before .if2 in
-    let run-timeout = c .before .before .before .before .run-timeout in
-    let if1 = c .before .before .before .before .before .before .before .before .before .before .before .if1 in
-    rw (asks-timeout (entered .args .line .now) (sym (is-letter .ensures) ∙ if2 .taken)) (run-timeout .ensures ∙ call-good timeout (entered .args .n) (entered .args .terms .now) (entered .args .orders .now) (entered .args .journal .now) (entered .args .room .now) (sym (entered .pre .1 .1) ∙ not-false _ (if1 .left)))
+    let at-run-timeout = c .before .before .before .before in
+    let at-if2 = at-run-timeout .before .before .before .before .before in
+    let at-is-letter = at-if2 .before in
+    let at-if1 = at-is-letter .before in
+    let entered = at-if1 .before .before .before .before .before .before in
+    let a = entered .args in
+    let good = ready (entered .pre) (not-false _ (at-if1 .if1 .left)) in
+    let event = asks-timeout (a .line .now) (sym (at-is-letter .is-letter .ensures) ∙ at-if2 .if2 .taken) in
+    event-left (a .line .now) (a .journal .now) (a .messages .now) good times-out event (at-run-timeout .run-timeout .ensures)
 
 is-letter-requires-2 : tie.Need-is-letter-requires-2
 is-letter-requires-2 c κs = search needs
 
 run-prompt-requires : tie.Need-run-prompt-requires
 run-prompt-requires c κs =
-    let entered = c .before .before .before .before .before .before .before .before .before .before .before .before .before .before in
-    let if1 = c .before .before .before .before .before .before .before .before .if1 in
-    (entered .pre .0, (entered .pre .1 .0, (sym (entered .pre .1 .1) ∙ not-false _ (if1 .left))))
+    let at-if1 = c .before .before .before .before .before .before .before .before in
+    let entered = at-if1 .before .before .before .before .before .before in
+    ready (entered .pre) (not-false _ (at-if1 .if1 .left))
 
 same-length-5 : tie.Need-same-length-5
 same-length-5 c = search needs
@@ -75,29 +75,31 @@ same-length-8 c = search needs
 
 returns-3 : tie.Need-returns-3
 returns-3 c =
-    let entered = c .before .before .before .before .before .before .before .before .before .before .before .before .before .before .before .before .before .before .before in
-    let is-letter = c .before .before .before .before .before .before .before .before .before .before .before .before .is-letter in
-    let if2 = c .before .before .before .before .before .before .before .before .before .before .before .if2 in
-    let is-letter2 = c .before .before .before .before .before .before .before .before .before .before .is-letter2 in
-    let if3 = c .before .before .before .before .before .before .before .before .before .if3 in
-    let run-prompt = c .before .before .before .before .run-prompt in
-    let if1 = c .before .before .before .before .before .before .before .before .before .before .before .before .before .if1 in
-    rw (asks-prompt (entered .args .line .now) (sym (is-letter .ensures) ∙ if2 .left) (sym (is-letter2 .ensures) ∙ if3 .taken)) (run-prompt .ensures ∙ call-good prompt (entered .args .n) (entered .args .terms .now) (entered .args .orders .now) (entered .args .journal .now) (entered .args .room .now) (sym (entered .pre .1 .1) ∙ not-false _ (if1 .left)))
+    let at-run-prompt = c .before .before .before .before in
+    let at-if3 = at-run-prompt .before .before .before .before .before in
+    let at-is-letter2 = at-if3 .before in
+    let at-if2 = at-is-letter2 .before in
+    let at-is-letter = at-if2 .before in
+    let at-if1 = at-is-letter .before in
+    let entered = at-if1 .before .before .before .before .before .before in
+    let a = entered .args in
+    let good = ready (entered .pre) (not-false _ (at-if1 .if1 .left)) in
+    let event = asks-prompt (a .line .now) (sym (at-is-letter .is-letter .ensures) ∙ at-if2 .if2 .left) (sym (at-is-letter2 .is-letter2 .ensures) ∙ at-if3 .if3 .taken) in
+    event-left (a .line .now) (a .journal .now) (a .messages .now) good is-prompted event (at-run-prompt .run-prompt .ensures)
 
 is-order-requires : tie.Need-is-order-requires
 is-order-requires c κs = search needs
 
 order-in-requires : tie.Need-order-in-requires
 order-in-requires c κs =
-    let is-order = c .before .is-order in
-    let if4 = c .if4 in
-    (sym (is-order .ensures) ∙ if4 .taken)
+    let at-is-order = c .before in
+    sym (at-is-order .is-order .ensures) ∙ c .if4 .taken
 
 run-order-requires : tie.Need-run-order-requires
 run-order-requires c κs =
-    let entered = c .before .before .before .before .before .before .before .before .before .before .before .before .before .before .before .before .before in
-    let if1 = c .before .before .before .before .before .before .before .before .before .before .before .if1 in
-    (entered .pre .0, (entered .pre .1 .0, (sym (entered .pre .1 .1) ∙ not-false _ (if1 .left))))
+    let at-if1 = c .before .before .before .before .before .before .before .before .before .before .before in
+    let entered = at-if1 .before .before .before .before .before .before in
+    ready (entered .pre) (not-false _ (at-if1 .if1 .left))
 
 same-length-9 : tie.Need-same-length-9
 same-length-9 c = search needs
@@ -113,23 +115,28 @@ same-length-12 c = search needs
 
 returns-4 : tie.Need-returns-4
 returns-4 c =
-    let entered = c .before .before .before .before .before .before .before .before .before .before .before .before .before .before .before .before .before .before .before .before .before .before .before .before .before .before in
-    let is-letter = c .before .before .before .before .before .before .before .before .before .before .before .before .before .before .before .before .before .before .before .is-letter in
-    let if2 = c .before .before .before .before .before .before .before .before .before .before .before .before .before .before .before .before .before .before .if2 in
-    let is-letter2 = c .before .before .before .before .before .before .before .before .before .before .before .before .before .before .before .before .before .is-letter2 in
-    let if3 = c .before .before .before .before .before .before .before .before .before .before .before .before .before .before .before .before .if3 in
-    let is-order = c .before .before .before .before .before .before .before .before .before .before .before .before .before .before .before .is-order in
-    let if4 = c .before .before .before .before .before .before .before .before .before .before .before .before .before .before .if4 in
-    let order-in = c .before .before .before .before .before .before .before .before .before .before .before .before .before .order-in in
-    let run-order = c .before .before .before .before .before .before .before .before .run-order in
-    let if1 = c .before .before .before .before .before .before .before .before .before .before .before .before .before .before .before .before .before .before .before .before .if1 in
-    rw (asks-order (entered .args .line .now) (sym (is-letter .ensures) ∙ if2 .left) (sym (is-letter2 .ensures) ∙ if3 .left) (sym (is-order .ensures) ∙ if4 .taken), ← order-in .ensures) (run-order .ensures ∙ call-good (order _) (entered .args .n) (entered .args .terms .now) (entered .args .orders .now) (entered .args .journal .now) (entered .args .room .now) (sym (entered .pre .1 .1) ∙ not-false _ (if1 .left)))
+    let at-run-order = c .before .before .before .before .before .before .before .before in
+    let at-order-in = at-run-order .before .before .before .before .before in
+    let at-if4 = at-order-in .before in
+    let at-is-order = at-if4 .before in
+    let at-if3 = at-is-order .before in
+    let at-is-letter2 = at-if3 .before in
+    let at-if2 = at-is-letter2 .before in
+    let at-is-letter = at-if2 .before in
+    let at-if1 = at-is-letter .before in
+    let entered = at-if1 .before .before .before .before .before .before in
+    let a = entered .args in
+    let good = ready (entered .pre) (not-false _ (at-if1 .if1 .left)) in
+    let no-timeout = sym (at-is-letter .is-letter .ensures) ∙ at-if2 .if2 .left in
+    let no-prompt = sym (at-is-letter2 .is-letter2 .ensures) ∙ at-if3 .if3 .left in
+    let event = asks-order (a .line .now) no-timeout no-prompt (sym (at-is-order .is-order .ensures) ∙ at-if4 .if4 .taken) in
+    event-left (a .line .now) (a .journal .now) (a .messages .now) good (takes-order _) (event ∙ ap takes-order (sym (at-order-in .order-in .ensures))) (at-run-order .run-order .ensures)
 
 run-bytes-requires : tie.Need-run-bytes-requires
 run-bytes-requires c κs =
-    let entered = c .before .before .before .before .before .before .before .before .before .before .before .before .before .before .before .before in
-    let if1 = c .before .before .before .before .before .before .before .before .before .before .if1 in
-    (entered .pre .0, (entered .pre .1 .0, (sym (entered .pre .1 .1) ∙ not-false _ (if1 .left))))
+    let at-if1 = c .before .before .before .before .before .before .before .before .before .before in
+    let entered = at-if1 .before .before .before .before .before .before in
+    ready (entered .pre) (not-false _ (at-if1 .if1 .left))
 
 same-length-13 : tie.Need-same-length-13
 same-length-13 c = search needs
@@ -145,16 +152,21 @@ same-length-16 c = search needs
 
 returns-5 : tie.Need-returns-5
 returns-5 c =
-    let entered = c .before .before .before .before .before .before .before .before .before .before .before .before .before .before .before .before .before .before .before .before .before .before .before .before .before in
-    let is-letter = c .before .before .before .before .before .before .before .before .before .before .before .before .before .before .before .before .before .before .is-letter in
-    let if2 = c .before .before .before .before .before .before .before .before .before .before .before .before .before .before .before .before .before .if2 in
-    let is-letter2 = c .before .before .before .before .before .before .before .before .before .before .before .before .before .before .before .before .is-letter2 in
-    let if3 = c .before .before .before .before .before .before .before .before .before .before .before .before .before .before .before .if3 in
-    let is-order = c .before .before .before .before .before .before .before .before .before .before .before .before .before .before .is-order in
-    let if4 = c .before .before .before .before .before .before .before .before .before .before .before .before .before .if4 in
-    let run-bytes = c .before .before .before .before .before .before .before .before .run-bytes in
-    let if1 = c .before .before .before .before .before .before .before .before .before .before .before .before .before .before .before .before .before .before .before .if1 in
-    rw (asks-receive (entered .args .line .now) (sym (is-letter .ensures) ∙ if2 .left) (sym (is-letter2 .ensures) ∙ if3 .left) (sym (is-order .ensures) ∙ if4 .left)) (run-bytes .ensures ∙ call-good (receive (entered .args .line .now)) (entered .args .n) (entered .args .terms .now) (entered .args .orders .now) (entered .args .journal .now) (entered .args .room .now) (sym (entered .pre .1 .1) ∙ not-false _ (if1 .left)))
+    let at-run-bytes = c .before .before .before .before .before .before .before .before in
+    let at-if4 = at-run-bytes .before .before .before .before .before in
+    let at-is-order = at-if4 .before in
+    let at-if3 = at-is-order .before in
+    let at-is-letter2 = at-if3 .before in
+    let at-if2 = at-is-letter2 .before in
+    let at-is-letter = at-if2 .before in
+    let at-if1 = at-is-letter .before in
+    let entered = at-if1 .before .before .before .before .before .before in
+    let a = entered .args in
+    let good = ready (entered .pre) (not-false _ (at-if1 .if1 .left)) in
+    let no-timeout = sym (at-is-letter .is-letter .ensures) ∙ at-if2 .if2 .left in
+    let no-prompt = sym (at-is-letter2 .is-letter2 .ensures) ∙ at-if3 .if3 .left in
+    let event = asks-receive (a .line .now) no-timeout no-prompt (sym (at-is-order .is-order .ensures) ∙ at-if4 .if4 .left) in
+    event-left (a .line .now) (a .journal .now) (a .messages .now) good (receives (a .line .now)) event (at-run-bytes .run-bytes .ensures)
 
 pub step-spec : {M : Type 1} → statement M
 step-spec =

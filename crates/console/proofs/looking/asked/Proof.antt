@@ -1,7 +1,7 @@
 -- The digit's number.
 use borrow.Author.Needs.{needs}
-use mathlib.Core.Path.{sym, _∙_}
 use native.Mathlib.Omega.{arith}
+use mathlib.Core.Path.{sym, _∙_}
 use Rattle.console.specs.LookingLaws.{asks-facts, asked-digit, asked-none}
 use Rattle.console.proofs.looking.asked.Statement.{statement}
 use Rattle.console.proofs.looking.asked.Tie as tie
@@ -11,17 +11,17 @@ is-asking-requires c κs = search needs
 
 shared-slice-read-result : tie.Need-shared-slice-read-result
 shared-slice-read-result c =
-    let entered = c .before .before .before .before in
-    let is-asking = c .before .before .is-asking in
-    let if1 = c .before .if1 in
-    omega (arith, asks-facts (entered .args .line .now) (sym (is-asking .ensures) ∙ if1 .taken) .0)
+    let at-if1 = c .before in
+    let at-is-asking = at-if1 .before in
+    let entered = at-is-asking .before .before in
+    omega (arith, asks-facts (entered .args .line .now) (sym (at-is-asking .is-asking .ensures) ∙ at-if1 .if1 .taken) .long)
 
 sub-result : tie.Need-sub-result
 sub-result c =
-    let entered = c .before .before .before .before in
-    let is-asking = c .before .before .is-asking in
-    let if1 = c .before .if1 in
-    omega (arith, asks-facts (entered .args .line .now) (sym (is-asking .ensures) ∙ if1 .taken) .1)
+    let at-if1 = c .before in
+    let at-is-asking = at-if1 .before in
+    let entered = at-is-asking .before .before in
+    omega (arith, asks-facts (entered .args .line .now) (sym (at-is-asking .is-asking .ensures) ∙ at-if1 .if1 .taken) .digit)
 
 returns : tie.Need-returns
 returns c =

@@ -22,13 +22,18 @@ same-length c = search needs
 
 returns : tie.Need-returns
 returns c =
-    let entered = c .before .before .before .before .before .before .before .before .before .before .before .before .before .before .before .before .before in
-    let put-number = c .before .before .before .before .before .before .before .before .before .before .before .before .before .before .put-number in
-    let put-number2 = c .before .before .before .before .before .before .before .before .before .before .put-number2 in
-    let put-number3 = c .before .before .before .before .before .before .put-number3 in
-    let put-number4 = c .before .before .put-number4 in
-    let both = first-put (entered .args .room .now) (entered .args .bytes) (entered .args .term) (entered .args .vote) (entered .args .last) (entered .pre) (put-number .ensures .0) (put-number .ensures .1 .0) (put-number2 .ensures .0) (put-number2 .ensures .1 .0) (put-number3 .ensures .0) (put-number3 .ensures .1 .0) (put-number4 .ensures .0) (put-number4 .ensures .1 .0) in
-    (both .0, (both .1, omega (arith, put-number .ensures .1 .1, put-number2 .ensures .1 .1, put-number3 .ensures .1 .1, put-number4 .ensures .1 .1)))
+    let at-put-number4 = c .before .before in
+    let at-put-number3 = at-put-number4 .before .before .before .before in
+    let at-put-number2 = at-put-number3 .before .before .before .before in
+    let at-put-number = at-put-number2 .before .before .before .before in
+    let entered = at-put-number .before .before .before in
+    let a = entered .args in
+    let one = at-put-number .put-number .ensures in
+    let two = at-put-number2 .put-number2 .ensures in
+    let three = at-put-number3 .put-number3 .ensures in
+    let four = at-put-number4 .put-number4 .ensures in
+    let all = first-put (a .room .now) (a .bytes) (a .term) (a .vote) (a .last) (entered .pre) (one .0) (two .0) (three .0) (four .0) in
+    (all, omega (arith, one .1, two .1, three .1, four .1))
 
 pub put-first-spec : {M : Type 1} → statement M
 put-first-spec =

@@ -3,6 +3,7 @@ use borrow.Author.Needs.{needs}
 use mathlib.Core.Path.{_≡_, refl, ap, _∙_}
 use native.Mathlib.Omega.{arith}
 use Prim.Native.Nat.{ℕ, _-_, _≤_}
+use mathlib.Core.List.{List}
 use lib.ListN.{length, length-set}
 use Rattle.digits.specs.Room.{over}
 use Rattle.digits.specs.RoomLaws.{over-nothing}
@@ -12,9 +13,13 @@ use Rattle.console.specs.LookingLaws.{logged-next}
 use Rattle.console.proofs.looking.put_log.Statement.{statement}
 use Rattle.console.proofs.looking.put_log.Tie as tie
 
+record Shown (room₀ : List ℕ) (at : ℕ) (terms orders : List ℕ) (last : ℕ) (room : List ℕ) (i : ℕ) : Type 0 where
+  within : i ≤ last
+  long : length room ≡ length room₀
+  holds : room ≡ over room₀ at (log-shown (entries-of terms orders 0 i))
+
 abbrev Inv-loop : tie.InvT-loop
-Inv-loop room₀ at terms orders last i₀ room i =
-    (i ≤ last) × (length room ≡ length room₀) × (room ≡ over room₀ at (log-shown (entries-of terms orders 0 i)))
+Inv-loop room₀ at terms orders last i₀ room i = Shown room₀ at terms orders last room i
 
 abbrev μ-loop : tie.MeasureT-loop
 μ-loop room₀ at terms orders last i₀ room i = last - i
@@ -23,7 +28,7 @@ loop-holds : tie.Need-loop-holds Inv-loop μ-loop
 unfolding entries-of log-shown
 loop-holds c =
     let entered = c .before .before .before in
-    (omega arith, refl, over-nothing (entered .args .room .now) (entered .args .at))
+    record { within = omega arith; long = refl; holds = over-nothing (entered .args .room .now) (entered .args .at) }
 
 mul-put-entry : tie.Need-mul-put-entry Inv-loop μ-loop
 mul-put-entry c = search needs
@@ -69,7 +74,9 @@ loop-again c =
     let put-entry = c .before .before .put-entry in
     let loop = c .before .before .before .before .before .before .before .loop in
     let entered = c .before .before .before .before .before .before .before .before .before .before .before in
-    (omega arith, simp length-set (omega (arith, put-entry .kept .0, loop .inv .1)), logged-next (entered .args .room .now) (entered .args .at) (entered .args .terms .now) (entered .args .orders .now) (loop .i) (omega (arith, entered .pre .1 .1)) (loop .inv .2) (put-entry .ensures))
+    let a = entered .args in
+    let text = logged-next (a .room .now) (a .at) (a .terms .now) (a .orders .now) (loop .i) (omega (arith, entered .pre .wide)) (loop .inv .holds) (put-entry .ensures) in
+    record { within = omega arith; long = simp length-set (omega (arith, put-entry .kept .0, loop .inv .long)); holds = text }
 
 same-length : tie.Need-same-length Inv-loop μ-loop
 same-length c = search needs
@@ -79,8 +86,9 @@ returns c =
     let loop = c .before .loop in
     let entered = c .before .before .before .before .before in
     let loop-test = c .loop-test in
-    let all : loop .i ≡ entered .args .last = omega (arith, loop-test .left) in
-    loop .inv .2 ∙ ap (λ (n : ℕ). over (entered .args .room .now) (entered .args .at) (log-shown (entries-of (entered .args .terms .now) (entered .args .orders .now) 0 n))) all
+    let a = entered .args in
+    let all : loop .i ≡ a .last = omega (arith, loop-test .left, loop .inv .within) in
+    loop .inv .holds ∙ ap (λ (n : ℕ). over (a .room .now) (a .at) (log-shown (entries-of (a .terms .now) (a .orders .now) 0 n))) all
 
 pub put-log-spec : {M : Type 1} → statement M
 put-log-spec =

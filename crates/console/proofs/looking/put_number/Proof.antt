@@ -1,7 +1,7 @@
 -- The digits, and the character behind them.
 use borrow.Author.Needs.{needs}
 use native.Mathlib.Omega.{arith}
-use Rattle.console.specs.LookingLaws.{numbered-long, numbered-put}
+use Rattle.console.specs.LookingLaws.{numbered-put}
 use Rattle.console.proofs.looking.put_number.Statement.{statement}
 use Rattle.console.proofs.looking.put_number.Tie as tie
 
@@ -10,9 +10,9 @@ put-decimal-requires c κs = search needs
 
 slice-write-room : tie.Need-slice-write-room
 slice-write-room c =
-    let put-decimal = c .before .before .put-decimal in
-    let entered = c .before .before .before .before .before in
-    omega (arith, put-decimal .kept .0, put-decimal .ensures .1 .1, entered .pre)
+    let at-put-decimal = c .before .before in
+    let entered = at-put-decimal .before .before .before in
+    omega (arith, at-put-decimal .put-decimal .kept .0, at-put-decimal .put-decimal .ensures .1, entered .pre)
 
 add-result : tie.Need-add-result
 add-result c = search needs
@@ -22,9 +22,10 @@ same-length c = search needs
 
 returns : tie.Need-returns
 returns c =
-    let put-decimal = c .before .before .put-decimal in
-    let entered = c .before .before .before .before .before in
-    (omega (arith, put-decimal .ensures .0, numbered-long (entered .args .n) (entered .args .behind)), (numbered-put (entered .args .room .now) (entered .args .at) (entered .args .n) (entered .args .behind) (entered .pre) (put-decimal .ensures .0) (put-decimal .ensures .1 .0), omega (arith, put-decimal .ensures .1 .1)))
+    let at-put-decimal = c .before .before in
+    let entered = at-put-decimal .before .before .before in
+    let a = entered .args in
+    (numbered-put (a .room .now) (a .at) (a .n) (a .behind) (entered .pre) (at-put-decimal .put-decimal .ensures .0), omega (arith, at-put-decimal .put-decimal .ensures .1))
 
 pub put-number-spec : {M : Type 1} → statement M
 put-number-spec =

@@ -6,13 +6,24 @@ use Rattle.console.proofs.looking.show.Statement.{statement}
 use Rattle.console.proofs.looking.show.Tie as tie
 
 put-first-requires : tie.Need-put-first-requires
-put-first-requires c κs = search needs
+put-first-requires c κs =
+    let entered = c .before .before .before .before in
+    omega (arith, entered .pre .wide)
 
 cast-put-log : tie.Need-cast-put-log
 cast-put-log c = search needs
 
 put-log-requires : tie.Need-put-log-requires
-put-log-requires c κs = search needs
+put-log-requires c κs =
+    let at-put-first = c .before .before .before in
+    let entered = at-put-first .before .before .before .before .before in
+    let k = entered .pre in
+    let first = at-put-first .put-first in
+    record {
+      terms-hold = omega (arith, k .fits, k .terms-long);
+      orders-hold = omega (arith, k .fits, k .orders-long);
+      wide = omega (arith, k .fits, k .wide, first .ensures .1, first .kept .0);
+    }
 
 cast-result : tie.Need-cast-result
 cast-result c = search needs
@@ -28,11 +39,14 @@ same-length c = search needs
 
 returns : tie.Need-returns
 returns c =
-    let entered = c .before .before .before .before .before .before .before .before .before .before .before in
-    let put-first = c .before .before .before .before .before .before .put-first in
-    let put-log = c .before .before .put-log in
-    let both = shown-put (entered .args .room .now) (entered .args .bytes) (entered .args .n) (entered .args .terms .now) (entered .args .orders .now) (entered .pre .1 .1 .1) (entered .pre .1 .1 .0) (put-first .ensures .0) (put-first .ensures .1 .1) (put-first .ensures .1 .0) (put-log .ensures) in
-    (both .0, (both .1, omega (arith, put-first .ensures .1 .1, entered .pre .1 .1 .0)))
+    let at-put-log = c .before .before in
+    let at-put-first = at-put-log .before .before .before .before in
+    let entered = at-put-first .before .before .before .before .before in
+    let a = entered .args in
+    let k = entered .pre in
+    let first = at-put-first .put-first .ensures in
+    let all = shown-put (a .room .now) (a .bytes) (a .n) (a .terms .now) (a .orders .now) (k .wide) (k .fits) (first .0) (first .1) (at-put-log .put-log .ensures) in
+    (all, omega (arith, first .1, k .fits))
 
 pub show-spec : {M : Type 1} → statement M
 show-spec =

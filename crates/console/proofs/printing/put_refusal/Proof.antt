@@ -2,9 +2,9 @@
 use borrow.Author.Needs.{needs}
 use native.Mathlib.Omega.{arith}
 use lib.ListN.{length-set}
-use Rattle.console.specs.TextLaws.{refusal-long, refusal-put}
-use Rattle.console.proofs.text.put_refusal.Statement.{statement}
-use Rattle.console.proofs.text.put_refusal.Tie as tie
+use Rattle.console.specs.TextLaws.{refusal-put}
+use Rattle.console.proofs.printing.put_refusal.Statement.{statement}
+use Rattle.console.proofs.printing.put_refusal.Tie as tie
 
 slice-write-room : tie.Need-slice-write-room
 slice-write-room c = search needs
@@ -16,9 +16,9 @@ put-decimal-requires c κs =
 
 slice-write-room-2 : tie.Need-slice-write-room-2
 slice-write-room-2 c =
-    let put-decimal = c .before .before .put-decimal in
-    let entered = c .before .before .before .before .before in
-    omega (arith, simp length-set at (put-decimal .kept .0), put-decimal .ensures .1 .1, entered .pre)
+    let at-put-decimal = c .before .before in
+    let entered = at-put-decimal .before .before .before in
+    omega (arith, simp length-set at (at-put-decimal .put-decimal .kept .0), at-put-decimal .put-decimal .ensures .1, entered .pre)
 
 add-result : tie.Need-add-result
 add-result c = search needs
@@ -30,9 +30,9 @@ same-length c =
 
 returns : tie.Need-returns
 returns c =
-    let put-decimal = c .before .before .put-decimal in
-    let entered = c .before .before .before .before .before in
-    (omega (arith, put-decimal .ensures .0, refusal-long (entered .args .number)), refusal-put (entered .args .room .now) (entered .args .number) (entered .pre) (put-decimal .ensures .0) (put-decimal .ensures .1 .0))
+    let at-put-decimal = c .before .before in
+    let entered = at-put-decimal .before .before .before in
+    refusal-put (entered .args .room .now) (entered .args .number) (entered .pre) (at-put-decimal .put-decimal .ensures .0)
 
 pub put-refusal-spec : {M : Type 1} → statement M
 put-refusal-spec =

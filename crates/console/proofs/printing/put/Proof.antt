@@ -2,24 +2,29 @@
 use borrow.Author.Needs.{needs}
 use native.Mathlib.Omega.{arith}
 use mathlib.Core.Path.{_≡_, refl, _∙_}
-use Prim.Native.Nat.{_-_, _≤_}
-use lib.ListN.{length, take}
+use Prim.Native.Nat.{ℕ, _+_, _-_, _≤_, _<_}
+use mathlib.Core.List.{List}
+use lib.ListN.{length, take, length-set}
 use Rattle.digits.specs.Room.{over}
 use Rattle.digits.specs.RoomLaws.{over-nothing}
 use Rattle.console.specs.TextLaws.{put-next, put-all}
-use Rattle.console.proofs.text.put.Statement.{statement}
-use Rattle.console.proofs.text.put.Tie as tie
+use Rattle.console.proofs.printing.put.Statement.{statement}
+use Rattle.console.proofs.printing.put.Tie as tie
+
+record Written (room₀ : List ℕ) (at : ℕ) (text room : List ℕ) (i : ℕ) : Type 0 where
+  within : i ≤ length text
+  long : length room ≡ length room₀
+  holds : room ≡ over room₀ at (take i text)
 
 abbrev Inv-loop : tie.InvT-loop
-Inv-loop room₀ at text i₀ room i = (i ≤ length text) × (length room ≡ length room₀) × (room ≡ over room₀ at (take i text))
+Inv-loop room₀ at text i₀ room i = Written room₀ at text room i
 
 abbrev μ-loop : tie.MeasureT-loop
 μ-loop room₀ at text i₀ room i = length text - i
 
 loop-holds : tie.Need-loop-holds Inv-loop μ-loop
 loop-holds c =
-    let entered = c in
-    (omega arith, refl, over-nothing (entered .args .room .now) (entered .args .at))
+    record { within = omega arith; long = refl; holds = over-nothing (c .args .room .now) (c .args .at) }
 
 shared-slice-read-room : tie.Need-shared-slice-read-room Inv-loop μ-loop
 shared-slice-read-room c = search needs
@@ -40,7 +45,13 @@ loop-again : tie.Need-loop-again Inv-loop μ-loop
 loop-again c =
     let entered = c .before .before .before in
     let loop = c .before .before .loop in
-    (omega arith, search needs, put-next (entered .args .room .now) (entered .args .text .now) (entered .args .at) (loop .i) (omega arith) (omega arith) (loop .inv .2))
+    let a = entered .args in
+    let inside : a .at + loop .i < length (a .room .now) = omega (arith, loop .inv .within) in
+    record {
+      within = omega arith;
+      long = simp length-set (loop .inv .long);
+      holds = put-next (a .room .now) (a .text .now) (a .at) (loop .i) inside (omega arith) (loop .inv .holds);
+    }
 
 same-length : tie.Need-same-length Inv-loop μ-loop
 same-length c = search needs
@@ -49,7 +60,7 @@ returns : tie.Need-returns Inv-loop μ-loop
 returns c =
     let loop = c .before .loop in
     let entered = c .before .before in
-    loop .inv .2 ∙ rw (put-all (entered .args .text .now) (loop .i) (omega arith))
+    loop .inv .holds ∙ rw (put-all (entered .args .text .now) (loop .i) (omega (arith, loop .inv .within)))
 
 pub put-spec : {M : Type 1} → statement M
 put-spec =

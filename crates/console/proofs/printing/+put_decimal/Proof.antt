@@ -1,18 +1,16 @@
 -- The places of the tenth, and the last one behind them (`decimal-more`); measure: the places left.
 use borrow.Author.Needs.{needs}
 use native.Mathlib.Omega.{arith}
-use lib.ListN.{length-append}
-use Rattle.digits.specs.RoomLaws.{over-nothing}
-use Rattle.frames.specs.WritingLaws.{stored-one}
-use Rattle.console.specs.TextLaws.{put-behind, decimal-none, decimal-one, decimal-more}
+use lib.ListN.{length}
+use Rattle.console.specs.TextLaws.{decimal-none, decimal-one, decimal-more}
 use Prim.Native.Nat.{ℕ, _<_}
 use borrow.Fn.Kinds.{In}
 use borrow.Fn.PlainCycle.{Measures, is, falls, and}
-use Rattle.console.proofs.text.put_decimal.Reads as put-decimal
-use Rattle.console.proofs.text.put_decimal.Kinds as put-decimal-kinds
-use Rattle.console.proofs.text.+put_decimal.Lts-put_decimal as put-decimal-lts
-use Rattle.console.proofs.text.+put_decimal.{statement}
-use Rattle.console.proofs.text.+put_decimal.Tie.{close}
+use Rattle.console.proofs.printing.put_decimal.Reads as put-decimal
+use Rattle.console.proofs.printing.put_decimal.Kinds as put-decimal-kinds
+use Rattle.console.proofs.printing.+put_decimal.Lts-put_decimal as put-decimal-lts
+use Rattle.console.proofs.printing.+put_decimal.{statement}
+use Rattle.console.proofs.printing.+put_decimal.Tie.{close}
 
 abbrev μ-put-decimal : Measures 1 put-decimal-kinds.ps ℕ
 μ-put-decimal κs a = a .1 .1 .1 .0
@@ -32,9 +30,8 @@ put-decimal-returns : (t : ℕ) → put-decimal-lts.Need-returns (
 put-decimal-returns t c =
     let entered = c .before .before in
     let if1 = c .if1 in
-    let places = entered .args .places in
-    let none = decimal-none places (entered .args .n) (if1 .taken) in
-    (rw none (omega arith), (rw none (over-nothing (entered .args .room .now) (entered .args .at)), omega arith))
+    let a = entered .args in
+    (decimal-none (a .room .now) (a .at) (a .places) (a .n) (if1 .taken), omega arith)
 
 put-decimal-cast-room : (t : ℕ) → put-decimal-lts.Need-cast-room (
   put-decimal-below t,
@@ -74,8 +71,9 @@ put-decimal-returns-2 t c =
     let entered = c .before .before .before in
     let if1 = c .before .if1 in
     let if2 = c .if2 in
-    let one = decimal-one (entered .args .places) (entered .args .n) (omega (arith, if1 .left)) (if2 .taken) in
-    (rw one (omega arith), (rw one (stored-one (entered .args .room .now) (entered .args .at) _ (omega (arith, if1 .left))), omega (arith, if1 .left)))
+    let a = entered .args in
+    let some = if1 .left in
+    (decimal-one (a .room .now) (a .at) (a .places) (a .n) (omega (arith, some)) (if2 .taken) (omega (arith, some)), omega (arith, some))
 
 put-decimal-sub-put-decimal : (t : ℕ) → put-decimal-lts.Need-sub-put-decimal (
   put-decimal-below t,
@@ -128,8 +126,11 @@ put-decimal-returns-3 t c =
     let if1 = c .before .before .before .before .before .if1 in
     let if2 = c .before .before .before .before .if2 in
     let put-decimal = c .before .before .put-decimal in
-    let more = decimal-more (entered .args .places) (entered .args .n) (omega (arith, if1 .left)) (omega (arith, if2 .left)) in
-    (rw (more, length-append) (omega (arith, put-decimal .ensures .0)), (rw more (put-behind (entered .args .room .now) _ (entered .args .at) _ (put-decimal .ensures .0) (omega (arith, put-decimal .ensures .1 .1)) (put-decimal .ensures .1 .0)), omega (arith, put-decimal .ensures .1 .1, if1 .left)))
+    let a = entered .args in
+    let some = if1 .left in
+    let front = put-decimal .ensures in
+    let end : put-decimal .result < length (a .room .now) = omega (arith, front .1, some) in
+    (decimal-more (a .room .now) (a .at) (a .places) (a .n) (omega (arith, some)) (omega (arith, if2 .left)) end (front .0), omega (arith, front .1, some))
 
 pub +put-decimal-spec : {M : Type 1} → statement M
 +put-decimal-spec = close μ-put-decimal λ t. put-decimal-lts.spec (

@@ -4,6 +4,7 @@ ghost use Prim.Native.Nat.{_+_, _≤_};
 ghost use lib.ListN.{length};
 ghost use Rattle.digits.specs.Room.{over};
 ghost use Rattle.console.specs.Session.{decimal-in, refusal-line};
+ghost use Rattle.console.specs.Calls.{Puts};
 
 // Puts a text at a place of the room.
 pub fn put(room: &mut [u8], at: usize, text: &[u8])
@@ -20,8 +21,7 @@ pub fn put(room: &mut [u8], at: usize, text: &[u8])
 // Puts a number's last so many decimal places at a place, none in front of its first; answers the place behind them.
 pub fn put_decimal(room: &mut [u8], at: usize, n: u64, places: usize) -> usize
     requires { ⌜ at + places ≤ length (now room) ⌝ }
-    ensures { λ r. ⌜ r ≡ at + length (decimal-in places n) ⌝ }
-    ensures { λ _. ⌜ now (room .exit) ≡ over (now (room .entry)) at (decimal-in places n) ⌝ }
+    ensures { λ r. ⌜ Puts (now (room .entry)) at (decimal-in places n) r (now (room .exit)) ⌝ }
     ensures { λ r. ⌜ r ≤ at + places ⌝ }
 {
     if places == 0 {
@@ -39,8 +39,7 @@ pub fn put_decimal(room: &mut [u8], at: usize, n: u64, places: usize) -> usize
 // Puts the line of a refusal at the room's start; answers its bytes.
 pub fn put_refusal(room: &mut [u8], number: u8) -> usize
     requires { ⌜ 22 ≤ length (now room) ⌝ }
-    ensures { λ r. ⌜ r ≡ length (refusal-line number) ⌝ }
-    ensures { λ _. ⌜ now (room .exit) ≡ over (now (room .entry)) 0 (refusal-line number) ⌝ }
+    ensures { λ r. ⌜ Puts (now (room .entry)) 0 (refusal-line number) r (now (room .exit)) ⌝ }
 {
     room[0] = b'n';
     let end = put_decimal(room, 1, number as u64, 20);
