@@ -1,8 +1,10 @@
 //! The proved box and the twin, with their journals, each call with one signature
 //! for both.
 
-use crate::library::{self, Numbers, Orders, Sizes, Terms};
-use crate::node::{self, journal};
+use twin::flat_record;
+
+use crate::library;
+use crate::numbers::{Numbers, Orders, Sizes, Terms};
 
 /// A timeout or a prompt, which leave the log alone.
 type OverLog = fn(&mut Numbers, &Terms, &Orders, &mut [u8], &mut [u8], &mut Sizes) -> u8;
@@ -37,12 +39,12 @@ pub const OURS: Side = Side {
 };
 
 pub const TWIN: Side = Side {
-    start: node::flat_start,
-    timeout: node::flat_timeout,
-    prompt: node::flat_prompt,
-    order: node::flat_order,
-    receive: node::flat_receive,
-    handed_out: node::flat_handed_out,
-    open: journal::flat_open,
-    replay: journal::flat_replay,
+    start: flat_record::start,
+    timeout: flat_record::timeout,
+    prompt: flat_record::prompt,
+    order: flat_record::order,
+    receive: flat_record::receive,
+    handed_out: flat_record::handed_out,
+    open: flat_record::open,
+    replay: flat_record::replay,
 };

@@ -5,9 +5,13 @@
 pub struct Random(u64);
 
 impl Random {
+    pub fn seeded(seed: u64) -> Random {
+        Random(seed)
+    }
+
     pub fn for_input(seed: u64, number: u64) -> Random {
-        let mut of_seed = Random(seed);
-        Random(of_seed.next() ^ number.wrapping_mul(0xd134_2543_de82_ef95))
+        let of_seed = Random::seeded(seed).next();
+        Random::seeded(of_seed ^ number.wrapping_mul(0xd134_2543_de82_ef95))
     }
 
     pub fn next(&mut self) -> u64 {

@@ -3,12 +3,14 @@
 
 use std::io::{BufRead, ErrorKind, Read, Result, Write};
 
+use crate::frames::LONGEST_TEXT;
+
 /// Bytes asked for at once, and bytes gathered before they are written.
 pub const BLOCK: usize = 0x1_0000;
 
 /// The longest frame, which is longer than any journal line, with its line feed:
 /// of a line that is longer nothing has to be kept.
-pub const LONGEST_LINE: usize = 131;
+pub const LONGEST_LINE: usize = LONGEST_TEXT;
 
 /// What was read; the part from `from` to `end` is not taken yet.
 pub struct Lines<R> {

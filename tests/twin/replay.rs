@@ -4,9 +4,10 @@
 
 use std::io::{Read, Result, Write};
 
-use super::journal::{head_of, replay, Refusal};
-use super::stream::{Line, Lines};
-use super::{Node, Orders, Terms, LONGEST_LOG};
+use crate::journal::head_of;
+use crate::lines::{Line, Lines};
+use crate::opening::{replay, Refusal};
+use crate::record::{Node, Orders, Terms, LONGEST_LOG};
 
 /// What the lines so far leave.
 struct Replaying {
@@ -100,6 +101,7 @@ pub fn run(input: impl Read, mut output: impl Write) -> Result<()> {
 #[cfg(test)]
 mod checks {
     use super::*;
+    use crate::checked_box::lines as spelled;
 
     fn said(input: &[u8]) -> String {
         let mut output = Vec::new();
@@ -109,8 +111,7 @@ mod checks {
 
     /// Box 1's journal of these lines after its head, blanks between fields.
     fn of_box_1(lines: &[&str]) -> String {
-        let lines = lines.iter().map(|line| line.replace(' ', "") + "\n");
-        said(("1\n01110107\n".to_string() + &lines.collect::<String>()).as_bytes())
+        said(("1\n01110107\n".to_string() + &spelled(lines)).as_bytes())
     }
 
     /// 01's reading: the head, and the line of the first timeout.

@@ -1,14 +1,15 @@
-//! Which of 01's cases a call has met, by name. The names come from the record
+//! Which of 01's cases a step has met, by name. The names come from the record
 //! before and after, the message and what was written, not from either side's
 //! own decisions.
 
-use crate::call::{Call, Event};
-use crate::counts::{Counts, Name};
-use crate::library::{
+use support::counts::{Counts, Name};
+use support::numbers::{
     CANDIDATE, COMMIT, FOLLOWER, LAST, LEADER, MATCH, ME, MEMBERS, NEXT, ROLE, TERM, VOTE, VOTES,
 };
-use crate::received::{Fields, APPEND, APPEND_ANSWER, VOTE_ANSWER, VOTE_REQUEST};
-use crate::records::{bit, boxes, Record, LAST_TERM};
+use support::received_frames::{Fields, APPEND, APPEND_ANSWER, VOTE_ANSWER, VOTE_REQUEST};
+use support::records::{bit, boxes, Record, LAST_TERM};
+
+use crate::step_by_both::{Event, StepByBoth};
 
 /// In the order of the kinds.
 const LOWER: [&str; 4] = [
@@ -147,17 +148,17 @@ pub fn wanted() -> Vec<Name> {
 }
 
 /// A step taken or refused with room for everything.
-pub struct Branches<'a> {
+pub struct CasesMet<'a> {
     pub counts: &'a mut Counts,
-    pub call: &'a Call<'a>,
+    pub taken: &'a StepByBoth<'a>,
     pub before: &'a Record,
     pub after: &'a Record,
 }
 
-impl Branches<'_> {
+impl CasesMet<'_> {
     pub fn count(&mut self) {
         let before = |place| self.before.get(place);
-        match (self.call.event, self.call.refusal()) {
+        match (self.taken.event, self.taken.refusal()) {
             (Event::Timeout, 0) => self.timeout(),
             (Event::Timeout, 9) => self.counts.add_of("9_in_role", before(ROLE)),
             (Event::Order(_), 3) if before(LAST) == 256 => self.counts.add("3_with_full_log"),
@@ -167,7 +168,7 @@ impl Branches<'_> {
             }
             (Event::Prompt, 0) => self.appends("prompt_appends"),
             (Event::HandedOut, 0) => {
-                let count = self.call.after.sizes()[0];
+                let count = self.taken.after.sizes()[0];
                 self.counts.add(match count {
                     0 => "handed_out_none",
                     _ if count == before(LAST) => "handed_out_all",
@@ -192,14 +193,14 @@ impl Branches<'_> {
         } else if self.after.get(ROLE) == LEADER {
             self.counts.add("won_at_once");
         } else {
-            let requests = self.call.messages().count();
+            let requests = self.taken.messages().count();
             self.counts.add_of("vote_requests", requests as u64);
         }
     }
 
     fn appends(&mut self, name: &'static str) {
         let mut appends = 0;
-        for append in self.call.messages() {
+        for append in self.taken.messages() {
             self.counts.add_of("append_of", entries_of(append));
             appends += 1;
         }
@@ -321,7 +322,7 @@ impl Branches<'_> {
 
     /// The one message sent says yes.
     fn answered_yes(&self) -> bool {
-        let answer = self.call.messages().next().and_then(Fields::of);
+        let answer = self.taken.messages().next().and_then(Fields::of);
         answer.is_some_and(|answer| answer.yes == 1)
     }
 
@@ -490,7 +491,7 @@ impl Branches<'_> {
             _ if raised => "match_raised",
             _ => "match_kept_by_old_yes",
         });
-        match (self.call.messages().next().map(entries_of), f.yes) {
+        match (self.taken.messages().next().map(entries_of), f.yes) {
             (None, _) => self.counts.add("none_sent_after_yes"),
             (Some(count), 0) => self.counts.add_of("sent_after_no_of", count),
             (Some(count), _) => self.counts.add_of("sent_after_yes_of", count),

@@ -2,9 +2,12 @@
 //! its term, its log and what it has sent, where the rules turn. The record may
 //! be a bad one; the frame is one for all that.
 
+use twin::flat_frame::{self, FIELDS};
+use twin::frames::LONGEST_TEXT;
+
 use crate::damage::{self, DAMAGES};
-use crate::library::{CANDIDATE, COMMIT, LAST, LEADER, MATCH, ME, MEMBERS, NEXT, ROLE, TERM, VOTE};
-use crate::node::frames;
+use crate::journal_lines::head;
+use crate::numbers::{CANDIDATE, COMMIT, LAST, LEADER, MATCH, ME, MEMBERS, NEXT, ROLE, TERM, VOTE};
 use crate::random::Random;
 use crate::records::{self, bit, boxes, term_within, Record, LAST_TERM};
 
@@ -34,8 +37,8 @@ pub struct Fields {
 impl Fields {
     /// None when the text is not one frame.
     pub fn of(text: &[u8]) -> Option<Fields> {
-        let mut flat = [0; frames::FIELDS];
-        if frames::flat_read(text, &mut flat) != 0 {
+        let mut flat = [0; FIELDS];
+        if flat_frame::read(text, &mut flat) != 0 {
             return None;
         }
         let [kind, from, to, term, index, past, commit, yes, count, pairs @ ..] = flat;
@@ -64,7 +67,7 @@ impl Fields {
 
     /// The frame.
     fn text(&self) -> Vec<u8> {
-        let mut flat = [0; frames::FIELDS];
+        let mut flat = [0; FIELDS];
         flat[..9].copy_from_slice(&[
             self.kind,
             self.from,
@@ -79,8 +82,8 @@ impl Fields {
         for (pair, &(term, order)) in flat[9..].chunks_exact_mut(2).zip(&self.entries) {
             pair.copy_from_slice(&[term, order]);
         }
-        let mut text = vec![0; frames::LONGEST_TEXT];
-        let answer = frames::flat_write(&flat, &mut text);
+        let mut text = vec![0; LONGEST_TEXT];
+        let answer = flat_frame::write(&flat, &mut text);
         assert_eq!(answer, 0, "no frame: {flat:x?}");
         let digits = text.iter().position(|&byte| byte == b'\n').expect("a line");
         text.truncate(digits + 1);
@@ -296,7 +299,7 @@ pub fn damaged(r: &mut Random, record: &Record) -> (&'static str, Vec<u8>) {
     let text = frame(r, record);
     match r.below(DAMAGES.len() + 4) {
         0 => ("empty", vec![]),
-        1 => ("head", format!("0111{:02x}7f\n", me(record)).into()),
+        1 => ("head", head(me(record), 0x7f)),
         2 => ("random_bytes", damage::random_bytes(r)),
         3 => {
             let other = frame(r, record);

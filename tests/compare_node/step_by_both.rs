@@ -1,12 +1,12 @@
-//! One call, taken by both sides with all that it may touch.
+//! One event, taken by both sides with all that it may touch.
 
 use std::fmt;
 
-use crate::guarded::{hex, middle, middle_mut, same_around, BOTH, GUARD};
-use crate::library::{Numbers, Orders, Sizes, Terms, NUMBERS};
-use crate::random::Random;
-use crate::records::Record;
-use crate::sides::{Side, OURS, TWIN};
+use support::comparison::Different;
+use support::guarded::{hex, same_around, LentRecord, BOTH, GUARD};
+use support::random::Random;
+use support::records::Record;
+use support::sides::{Side, OURS, TWIN};
 
 #[derive(Clone, Copy)]
 pub enum Event<'a> {
@@ -64,12 +64,9 @@ const TEXT: usize = 400;
 /// the sizes; a start leaves both alone.
 #[derive(Clone, PartialEq)]
 pub struct Lent {
-    numbers: [u64; NUMBERS + BOTH],
-    terms: [u32; 256 + BOTH],
-    orders: [u64; 256 + BOTH],
+    box_record: LentRecord,
     journal: [u8; ROOMY.journal + BOTH],
     room: [u8; ROOMY.messages + BOTH],
-    sizes: [u64; 2 + BOTH],
     text: [u8; TEXT + BOTH],
 }
 
@@ -86,19 +83,13 @@ impl Lent {
         // What lies past a text that lacks its end would make a frame of it.
         let bait = r.of(b"\n\n01");
         let mut lent = Lent {
-            numbers: [r.next(); NUMBERS + BOTH],
-            terms: [r.next() as u32; 256 + BOTH],
-            orders: [r.next(); 256 + BOTH],
+            box_record: LentRecord::new(record, r),
             journal: [0; ROOMY.journal + BOTH],
             room: [0; ROOMY.messages + BOTH],
-            sizes: [r.next(); 2 + BOTH],
             text: [bait; TEXT + BOTH],
         };
         scatter(&mut lent.journal, r);
         scatter(&mut lent.room, r);
-        lent.numbers[GUARD..][..NUMBERS].copy_from_slice(&record.numbers);
-        lent.terms[GUARD..][..256].copy_from_slice(&record.terms);
-        lent.orders[GUARD..][..256].copy_from_slice(&record.orders);
         if let Event::Receive(text) = event {
             lent.text[GUARD..][..text.len()].copy_from_slice(text);
         }
@@ -106,15 +97,11 @@ impl Lent {
     }
 
     pub fn record(&self) -> Record {
-        Record {
-            numbers: middle(&self.numbers),
-            terms: middle(&self.terms),
-            orders: middle(&self.orders),
-        }
+        self.box_record.record()
     }
 
-    pub fn sizes(&self) -> Sizes {
-        middle(&self.sizes)
+    pub fn sizes(&self) -> [u64; 2] {
+        self.box_record.sizes()
     }
 
     /// The first bytes of the rooms, as many as that.
@@ -128,10 +115,7 @@ impl Lent {
 
 /// The refusal; of a start also the bytes written, times 256.
 fn take(side: &Side, event: Event, lent: &mut Lent, rooms: Rooms) -> u64 {
-    let numbers: &mut Numbers = middle_mut(&mut lent.numbers);
-    let terms: &mut Terms = middle_mut(&mut lent.terms);
-    let orders: &mut Orders = middle_mut(&mut lent.orders);
-    let sizes: &mut Sizes = middle_mut(&mut lent.sizes);
+    let (numbers, terms, orders, sizes) = lent.box_record.lend();
     let journal = &mut lent.journal[GUARD..][..rooms.journal];
     let room = &mut lent.room[GUARD..][..rooms.messages];
     let answer = match event {
@@ -148,8 +132,8 @@ fn take(side: &Side, event: Event, lent: &mut Lent, rooms: Rooms) -> u64 {
     answer.into()
 }
 
-/// A call on which both sides agreed.
-pub struct Call<'a> {
+/// A step or a refusal on which both sides agreed.
+pub struct StepByBoth<'a> {
     pub event: Event<'a>,
     pub before: &'a Lent,
     pub rooms: Rooms,
@@ -157,13 +141,13 @@ pub struct Call<'a> {
     pub after: Lent,
 }
 
-impl<'a> Call<'a> {
+impl<'a> StepByBoth<'a> {
     /// Both take the event with these rooms.
     pub fn new(
         event: Event<'a>,
         before: &'a Lent,
         rooms: Rooms,
-    ) -> Result<Call<'a>, Box<Difference>> {
+    ) -> Result<StepByBoth<'a>, Box<Difference>> {
         let (mut by_us, mut by_twin) = (before.clone(), before.clone());
         let answer = take(&OURS, event, &mut by_us, rooms);
         let twin_answer = take(&TWIN, event, &mut by_twin, rooms);
@@ -177,17 +161,17 @@ impl<'a> Call<'a> {
                 twin: (twin_answer, by_twin),
             }));
         }
-        let call = Call {
+        let taken = StepByBoth {
             event,
             before,
             rooms,
             answer,
             after: by_us,
         };
-        if call.refusal() != 0 && call.after != *before {
-            return Err(call.wrong("both, a refusal touches something"));
+        if taken.refusal() != 0 && taken.after != *before {
+            return Err(taken.wrong("both, a refusal touches something"));
         }
-        Ok(call)
+        Ok(taken)
     }
 
     pub fn refusal(&self) -> u8 {
@@ -240,7 +224,7 @@ pub struct Difference {
 }
 
 impl Difference {
-    pub fn print(&self) {
+    pub fn print(&self) -> Different {
         println!("difference: {}", self.what);
         println!("event: {}", self.event);
         println!("before, numbers in hexadecimal:");
@@ -252,22 +236,14 @@ impl Difference {
             println!("{side}: answer {answer}");
             self.print_side(after);
         }
+        Different
     }
 
-    /// Of the log what is not as before.
     fn print_side(&self, lent: &Lent) {
-        let (record, before) = (lent.record(), self.before.record());
         let (journal, room) = lent.written(self.rooms);
-        println!("  numbers {}", hex(&record.numbers));
-        println!("  sizes {}", hex(&lent.sizes()));
+        lent.box_record.print(&self.before.box_record);
         println!("  journal of {}: {}", journal.len(), journal.escape_ascii());
         println!("  room of {}: {}", room.len(), room.escape_ascii());
-        for place in 0..256 {
-            let entry = (record.terms[place], record.orders[place]);
-            if entry != (before.terms[place], before.orders[place]) {
-                println!("  place {place}: term {:x} order {:x}", entry.0, entry.1);
-            }
-        }
         if !self.is_around(lent) {
             println!("  and something beside what was lent");
         }
@@ -276,12 +252,9 @@ impl Difference {
     /// Around what was lent, this is as before.
     fn is_around(&self, lent: &Lent) -> bool {
         let before = &self.before;
-        same_around(&lent.numbers, &before.numbers, NUMBERS)
-            && same_around(&lent.terms, &before.terms, 256)
-            && same_around(&lent.orders, &before.orders, 256)
+        lent.box_record.is_around(&before.box_record)
             && same_around(&lent.journal, &before.journal, self.rooms.journal)
             && same_around(&lent.room, &before.room, self.rooms.messages)
-            && same_around(&lent.sizes, &before.sizes, 2)
             && lent.text == before.text
     }
 }

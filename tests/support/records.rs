@@ -2,7 +2,7 @@
 //! 01, and garbage. They are made from 01's rules alone, so that a rule that
 //! the twin forgets is found as well.
 
-use crate::library::{
+use crate::numbers::{
     CANDIDATE, COMMIT, FOLLOWER, LAST, LEADER, MATCH, ME, MEMBERS, NEXT, NUMBERS, ROLE, TERM, VOTE,
     VOTES,
 };

@@ -1,12 +1,12 @@
 //! Every rule of a journal broken alone, in every kind of line that it can be
-//! broken in, and every way in which a first line is no proper head.
+//! broken in.
 
 use crate::damage;
-use crate::lines::{
+use crate::journal_lines::{
     self, Line, Stored, ADDS, ADDS_AGAIN, CUTS_AND_ADDS, LONGEST_LOG, MOST_ENTRIES, RAISES,
 };
 use crate::random::Random;
-use crate::records::{bit, boxes, LAST_TERM};
+use crate::records::{boxes, LAST_TERM};
 
 /// The bad line's bytes, made of a good one; None where the stored part or the
 /// line does not allow it.
@@ -47,21 +47,21 @@ fn strangers(mask: u64) -> Vec<u64> {
     boxes(0x7f & !mask)
 }
 
-fn one_of(r: &mut Random, choices: Vec<u64>) -> Option<u64> {
+pub(crate) fn one_of(r: &mut Random, choices: Vec<u64>) -> Option<u64> {
     (!choices.is_empty()).then(|| r.of(&choices))
 }
 
-fn others_than(number: u64, choices: Vec<u64>) -> Vec<u64> {
+pub(crate) fn others_than(number: u64, choices: Vec<u64>) -> Vec<u64> {
     choices.into_iter().filter(|one| *one != number).collect()
 }
 
 /// The text with the two digits of one byte changed.
-fn with_byte(mut text: Vec<u8>, place: usize, byte: u64) -> Vec<u8> {
+pub(crate) fn with_byte(mut text: Vec<u8>, place: usize, byte: u64) -> Vec<u8> {
     text[2 * place..][..2].copy_from_slice(format!("{byte:02x}").as_bytes());
     text
 }
 
-pub static TERMS_AND_VOTES: [Broken; 11] = [
+static TERMS_AND_VOTES: [Broken; 11] = [
     broken("another_box", ALL, |r, stored, mut line| {
         line.me = one_of(r, others_than(stored.me, boxes(0x7f)))?;
         Some(line.text())
@@ -122,7 +122,7 @@ pub static TERMS_AND_VOTES: [Broken; 11] = [
     }),
 ];
 
-pub static LOGS: [Broken; 10] = [
+static LOGS: [Broken; 10] = [
     broken("kept_past_length", ALL, |r, stored, mut line| {
         let (least, most) = (stored.last() + 1, LONGEST_LOG - line.count);
         if least > most {
@@ -149,7 +149,7 @@ pub static LOGS: [Broken; 10] = [
             0 => r.between(5, 255).min(room),
             _ => 5,
         };
-        let added = lines::entries(r, stored, &line, count);
+        let added = journal_lines::entries(r, stored, &line, count);
         (5..=room).contains(&count).then(|| line.with(added).text())
     }),
     broken("past_256", &[ADDS, CUTS_AND_ADDS], |r, stored, mut line| {
@@ -160,7 +160,7 @@ pub static LOGS: [Broken; 10] = [
         }
         let room = LONGEST_LOG - line.kept;
         let count = r.between(1, MOST_ENTRIES).max(room + 1);
-        let added = lines::entries(r, stored, &line, count);
+        let added = journal_lines::entries(r, stored, &line, count);
         (count <= MOST_ENTRIES).then(|| line.with(added).text())
     }),
     broken(
@@ -222,7 +222,7 @@ pub static LOGS: [Broken; 10] = [
 ];
 
 /// Bytes that are no digit, those beside the digits among them.
-fn no_digit(r: &mut Random) -> u8 {
+pub(crate) fn no_digit(r: &mut Random) -> u8 {
     loop {
         let byte = match r.one_in(2) {
             true => r.of(b"/:@AFG`g \r\t\0\x80\xff"),
@@ -234,7 +234,7 @@ fn no_digit(r: &mut Random) -> u8 {
     }
 }
 
-pub static TEXTS: [Broken; 17] = [
+static TEXTS: [Broken; 17] = [
     broken("version", ALL, |r, _, line| {
         let version = r.of(&[0x00, 0x02, 0x10, 0x11, 0x81, 0xff]);
         Some(with_byte(line.text(), 0, version))
@@ -297,7 +297,7 @@ pub static TEXTS: [Broken; 17] = [
         let mut text = line.text();
         text.pop();
         let next = stored.after(&line);
-        text.extend(lines::any(r, &next).text());
+        text.extend(journal_lines::any(r, &next).text());
         Some(text)
     }),
     broken("line_feed_inside", ALL, |r, _, line| {
@@ -328,112 +328,7 @@ pub static TEXTS: [Broken; 17] = [
     }),
 ];
 
-/// The box asked for and the first line, of a box and its mask; the rest of the
-/// journal follows. None where they do not allow it.
-type Head = fn(&mut Random, u64, u64) -> Option<(u64, Vec<u8>)>;
-
-fn head(me: u64, mask: u64) -> Vec<u8> {
-    format!("0111{me:02x}{mask:02x}\n").into()
+/// All of them.
+pub fn rules() -> impl Iterator<Item = &'static Broken> + Clone {
+    TERMS_AND_VOTES.iter().chain(&LOGS).chain(&TEXTS)
 }
-
-/// The head with a byte of it changed.
-fn changed(me: u64, mask: u64, place: usize, byte: u64) -> Option<(u64, Vec<u8>)> {
-    Some((me, with_byte(head(me, mask), place, byte)))
-}
-
-pub static HEADS: [(&str, Head); 25] = [
-    ("head_of_another", |r, me, mask| {
-        let asked = one_of(r, others_than(me, boxes(0x7f)))?;
-        Some((asked, head(me, mask)))
-    }),
-    ("head_asked_for_0", |_, me, mask| Some((0, head(me, mask)))),
-    ("head_asked_for_8", |_, me, mask| Some((8, head(me, mask)))),
-    ("head_asked_for_255", |_, me, mask| {
-        Some((255, head(me, mask)))
-    }),
-    ("head_asked_for_none", |r, me, mask| {
-        let any = r.between(8, 255);
-        let asked = r.of(&[me + 8, me + 128, any]);
-        Some((asked, head(me, mask)))
-    }),
-    ("head_of_box_0", |r, _, mask| {
-        Some((0, head(0, r.of(&[0, mask, 0xff]))))
-    }),
-    ("head_of_box_8", |r, _, mask| {
-        Some((8, head(8, r.of(&[0x80, mask, mask | 0x80, 0xff]))))
-    }),
-    ("head_of_box_255", |r, _, mask| {
-        Some((255, head(255, r.of(&[0x80, mask, 0xff]))))
-    }),
-    ("head_of_no_box", |r, me, mask| {
-        let none = r.of(&[me + 8, me + 32, me + 64, me + 128]);
-        Some((none, head(none, mask)))
-    }),
-    ("head_mask_0", |_, me, _| Some((me, head(me, 0)))),
-    ("head_mask_bit_7", |_, me, mask| {
-        Some((me, head(me, mask | 0x80)))
-    }),
-    ("head_mask_without_itself", |_, me, mask| {
-        let others = mask & !bit(me);
-        (others != 0).then(|| (me, head(me, others)))
-    }),
-    ("head_version", |r, me, mask| {
-        changed(me, mask, 0, r.of(&[0x00, 0x02, 0x11, 0xff]))
-    }),
-    ("head_kind", |r, me, mask| {
-        changed(me, mask, 1, r.of(&[0x00, 0x01, 0x10, 0x12, 0x91]))
-    }),
-    ("head_no_digit", |r, me, mask| {
-        let mut text = head(me, mask);
-        text[r.below(8)] = no_digit(r);
-        Some((me, text))
-    }),
-    ("head_upper_case", |_, me, mask| {
-        let text = head(me, mask).to_ascii_uppercase();
-        (text != head(me, mask)).then_some((me, text))
-    }),
-    ("head_one_digit_more", |r, me, mask| {
-        let mut text = head(me, mask);
-        text.insert(r.below(9), b'0');
-        Some((me, text))
-    }),
-    ("head_bytes_more", |r, me, mask| {
-        let mut text = head(me, mask);
-        let more = r.of(&[2, 4, 14, 256, 0x1_0000]);
-        text.splice(8..8, vec![b'0'; more]);
-        Some((me, text))
-    }),
-    ("head_too_short", |r, me, mask| {
-        let mut text = head(me, mask);
-        text.drain(r.below(8)..8);
-        Some((me, text))
-    }),
-    ("head_carriage_return", |_, me, mask| {
-        let mut text = head(me, mask);
-        text.insert(8, b'\r');
-        Some((me, text))
-    }),
-    ("head_blank", |r, me, mask| {
-        let mut text = head(me, mask);
-        text.insert(r.of(&[0, 8]), b' ');
-        Some((me, text))
-    }),
-    ("head_after_line_feed", |_, me, mask| {
-        Some((me, [b"\n".to_vec(), head(me, mask)].concat()))
-    }),
-    ("head_without_line_feed", |_, me, mask| {
-        let mut text = head(me, mask);
-        text.pop();
-        Some((me, text))
-    }),
-    ("head_lacks", |_, me, _| Some((me, Vec::new()))),
-    ("head_after_a_line", |r, me, mask| {
-        let stored = Stored {
-            me,
-            mask,
-            ..Stored::default()
-        };
-        let line = lines::any(r, &stored).text();
-        Some((me, [line, head(me, mask)].concat()))
-    }),
-];

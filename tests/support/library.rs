@@ -1,10 +1,7 @@
 //! The proved library's C functions, as `crates/abi` has them, and those of the
 //! box and its journal a second time with what is lent in Rust's types.
 
-#[path = "numbers.rs"]
-mod numbers;
-
-pub use numbers::*;
+use crate::numbers::{Numbers, Orders, Sizes, Terms};
 
 #[link(name = "abi", kind = "static")]
 unsafe extern "C" {

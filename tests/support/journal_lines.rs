@@ -4,7 +4,7 @@
 
 use std::fmt::Write;
 
-use crate::library::{LAST, ME, MEMBERS, TERM, VOTE};
+use crate::numbers::{LAST, ME, MEMBERS, TERM, VOTE};
 use crate::random::Random;
 use crate::records::{self, boxes, term_within, Record, LAST_TERM};
 
@@ -37,6 +37,11 @@ pub struct Line {
     pub entries: Vec<Entry>,
 }
 
+/// The head of a box and its mask, which may be bad ones.
+pub fn head(me: u64, mask: u64) -> Vec<u8> {
+    format!("0111{me:02x}{mask:02x}\n").into()
+}
+
 impl Stored {
     pub fn of(record: &Record) -> Stored {
         let last = record.get(LAST) as usize;
@@ -65,7 +70,7 @@ impl Stored {
     }
 
     pub fn head(&self) -> Vec<u8> {
-        format!("0111{:02x}{:02x}\n", self.me, self.mask).into()
+        head(self.me, self.mask)
     }
 
     /// What a line that breaks no rule leaves.

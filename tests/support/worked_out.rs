@@ -1,4 +1,5 @@
-//! The end of a program that works out a crate's `stdin` and `stdout`: it prints the one asked for.
+//! The end of a program that works out a crate's `stdin` and `stdout`: it prints the
+//! one asked for.
 
 use std::io::Write;
 use std::process::ExitCode;
@@ -20,4 +21,10 @@ pub fn print(program: &str, input: &[u8], output: &[u8]) -> ExitCode {
             ExitCode::FAILURE
         }
     }
+}
+
+/// Lines of text; the blanks between fields are for the reader of a list only.
+pub fn lines(lines: &[&str]) -> String {
+    let lines = lines.iter().map(|line| line.replace(' ', "") + "\n");
+    lines.collect()
 }

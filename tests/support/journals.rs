@@ -1,7 +1,7 @@
 //! Journals with the stored part after each of their lines, and such as are made
 //! of random lines that break no rule.
 
-use crate::lines::{self, Line, Stored, ADDS, KINDS, LONGEST_LOG};
+use crate::journal_lines::{self, Line, Stored, ADDS, KINDS, LONGEST_LOG};
 use crate::random::Random;
 use crate::records::{self, LAST_TERM};
 
@@ -62,7 +62,7 @@ impl Journal {
     pub fn made(r: &mut Random, lines: usize) -> Journal {
         let mut journal = Journal::fresh(r);
         for _ in 0..lines {
-            let line = lines::any(r, journal.last());
+            let line = journal_lines::any(r, journal.last());
             journal.push_line(&line);
         }
         journal
@@ -82,7 +82,7 @@ impl Journal {
             journal.push_line(&line);
         }
         for _ in 0..r.below(3) {
-            let line = lines::any(r, journal.last());
+            let line = journal_lines::any(r, journal.last());
             journal.push_line(&line);
         }
         journal
@@ -92,7 +92,7 @@ impl Journal {
     pub fn long(r: &mut Random) -> Journal {
         let mut journal = Journal::fresh(r);
         while journal.ends.len() < 66_000 {
-            let mut line = lines::any(r, journal.last());
+            let mut line = journal_lines::any(r, journal.last());
             if line.term == LAST_TERM || line.kept + line.count > 6 {
                 line = journal.last().line();
                 line.term = line.term.max(1);

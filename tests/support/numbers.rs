@@ -1,5 +1,5 @@
-//! A box's record as numbers, and what is lent with it, apart from the calls that
-//! take them: what draws records needs no library.
+//! A box's record as numbers, and what is lent with it: what every call of the
+//! library takes.
 
 pub const NUMBERS: usize = 22;
 
