@@ -1,13 +1,15 @@
 //! What is opened of one journal that breaks no rule: the whole of it, cut, with
 //! a torn end, with a line of every kind put in, and with a rule broken.
 
-use crate::broken::{Broken, HEADS, LOGS, TERMS_AND_VOTES, TEXTS};
-use crate::call::Difference;
-use crate::counts::Name;
-use crate::damage::{self, DAMAGES};
-use crate::journals::Journal;
-use crate::lines::{self, Stored, ADDS, CUTS_AND_ADDS, KINDS};
-use crate::{Comparison, Expected};
+use support::bad_heads::HEADS;
+use support::broken_lines::{rules, Broken};
+use support::counts::Name;
+use support::damage::{self, DAMAGES};
+use support::journal_lines::{self, Stored, ADDS, CUTS_AND_ADDS, KINDS};
+use support::journals::Journal;
+
+use crate::opening_by_both::Difference;
+use crate::{Expected, JournalComparison};
 
 /// Longer journals are cut at some bytes only.
 const CUT_AT_EVERY_BYTE: usize = 3000;
@@ -34,10 +36,6 @@ const WANTED: [&str; 12] = [
     "bad_head_and_bad_line",
 ];
 
-fn rules() -> impl Iterator<Item = &'static Broken> {
-    TERMS_AND_VOTES.iter().chain(&LOGS).chain(&TEXTS)
-}
-
 /// Each rule with each kind of line that it can be broken in.
 pub fn broken_in_kinds() -> Vec<(&'static Broken, usize)> {
     let in_kinds = |rule: &'static Broken| rule.kinds.iter().map(move |kind| (rule, *kind));
@@ -58,7 +56,7 @@ pub fn wanted() -> Vec<Name> {
     names
 }
 
-impl Comparison {
+impl JournalComparison {
     pub fn all_about(
         &mut self,
         journal: &Journal,
@@ -132,7 +130,7 @@ impl Comparison {
             let mut torn = match self.r.below(3) {
                 0 => damage::random_bytes(&mut self.r),
                 1 => journal.rest(1).to_vec(),
-                _ => lines::any(&mut self.r, journal.last()).text(),
+                _ => journal_lines::any(&mut self.r, journal.last()).text(),
             };
             torn.retain(|&byte| byte != b'\n');
             let text = [&journal.text, &torn[..]].concat();
@@ -160,7 +158,7 @@ impl Comparison {
             let after = stored.after(&line);
             let expected = Expected::Opened(&after);
             self.open(stored.me, &start, start.len(), expected)?;
-            let next = lines::any(&mut self.r, &after);
+            let next = journal_lines::any(&mut self.r, &after);
             start.extend(next.text());
             let expected = Expected::Opened(&after.after(&next));
             self.open(stored.me, &start, start.len(), expected)?;

@@ -2,15 +2,17 @@
 //! a park. A box that loses power is opened from what it has written, and goes on
 //! from there; what it then holds must be what it held.
 
-use crate::call::Difference;
-use crate::journals::Journal;
-use crate::library::{LAST, LEADER, ME, NUMBERS, ROLE};
-use crate::lines::{self, Stored};
-use crate::random::Random;
-use crate::received;
-use crate::records::{self, Record};
-use crate::sides::TWIN;
-use crate::{Comparison, Expected};
+use support::journal_lines::{self, Stored};
+use support::journals::Journal;
+use support::numbers::{LAST, LEADER, ME, NUMBERS, ROLE};
+use support::random::Random;
+use support::received_frames;
+use support::records::{self, Record};
+use support::sides::TWIN;
+use support::under_way::UnderWay;
+
+use crate::opening_by_both::Difference;
+use crate::{Expected, JournalComparison};
 
 /// More than any step writes.
 const LINE: usize = 119;
@@ -85,10 +87,7 @@ impl Member {
 
 struct Park {
     members: Vec<Member>,
-    /// Sent and not yet lost, the oldest first.
-    frames: Vec<Vec<u8>>,
-    /// The number of a box that nothing comes from or goes to, or 0.
-    cut_off: u64,
+    frames: UnderWay,
     /// Nothing goes wrong, and orders come fast.
     calm: bool,
 }
@@ -104,7 +103,7 @@ impl Park {
     }
 }
 
-impl Comparison {
+impl JournalComparison {
     /// One box that gets frames near its record, of which many cut.
     pub fn alone(&mut self) -> Result<(), Box<Difference>> {
         self.counts.add("session_alone");
@@ -127,7 +126,7 @@ impl Comparison {
     /// Rarely one of the last terms, in which a box stays for good.
     fn frame(&mut self, record: &Record) -> Vec<u8> {
         loop {
-            let text = received::frame(&mut self.r, record);
+            let text = received_frames::frame(&mut self.r, record);
             if !text[8..].starts_with(b"ffff") || self.r.one_in(60) {
                 return text;
             }
@@ -141,13 +140,12 @@ impl Comparison {
         let fresh = |me: u64| Member::fresh(&mut self.r, me, mask);
         let mut park = Park {
             members: records::boxes(mask).into_iter().map(fresh).collect(),
-            frames: Vec::new(),
-            cut_off: 0,
+            frames: UnderWay::at_most(MOST_FRAMES),
             calm: self.r.one_in(4),
         };
         for _ in 0..self.r.of(&[60, 200, 600, 2500]) {
             if self.r.one_in(60) && !park.calm {
-                park.cut_off = self.r.between(0, 7);
+                park.frames.cut_off = self.r.between(0, 7);
             }
             self.park_event(&mut park)?;
         }
@@ -161,7 +159,9 @@ impl Comparison {
     fn park_event(&mut self, park: &mut Park) -> Result<(), Box<Difference>> {
         let any = self.r.below(park.members.len());
         let leaders = park.leaders();
-        let unheard = !leaders.iter().any(|at| park.number(*at) != park.cut_off);
+        let unheard = !leaders
+            .iter()
+            .any(|at| park.number(*at) != park.frames.cut_off);
         let leader = match leaders[..] {
             [] => any,
             _ => self.r.of(&leaders),
@@ -179,33 +179,20 @@ impl Comparison {
             72..=150 if park.calm => park.members[leader].take(Event::Order(order)),
             _ => self.deliver(park),
         };
-        park.frames.extend(sent);
-        while park.frames.len() > MOST_FRAMES {
-            park.frames.remove(self.r.below(MOST_FRAMES));
-        }
+        park.frames.send(sent, &mut self.r);
         Ok(())
     }
 
-    /// The oldest frame or any; it may come again, or be lost.
+    /// A frame that is under way arrives, or is lost: what is sent then.
     fn deliver(&mut self, park: &mut Park) -> Vec<Vec<u8>> {
-        if park.frames.is_empty() {
+        let Some(frame) = park.frames.next(&mut self.r) else {
             return Vec::new();
-        }
-        let which = match self.r.one_in(2) {
-            true => 0,
-            false => self.r.below(park.frames.len()),
         };
-        let frame = match self.r.one_in(8) {
-            true => park.frames[which].clone(),
-            false => park.frames.remove(which),
-        };
-        let [from, to] = [frame[5], frame[7]].map(|digit| u64::from(digit - b'0'));
-        let at = (0..park.members.len()).find(|at| park.number(*at) == to);
+        let to = park.frames.reaches(&frame);
+        let at = (0..park.members.len()).find(|at| Some(park.number(*at)) == to);
         match at {
-            Some(at) if ![from, to].contains(&park.cut_off) => {
-                park.members[at].take(Event::Receive(frame))
-            }
-            _ => Vec::new(),
+            Some(at) => park.members[at].take(Event::Receive(frame)),
+            None => Vec::new(),
         }
     }
 
@@ -217,7 +204,7 @@ impl Comparison {
         let stored = Stored::of(&member.record);
         if self.r.one_in(2) {
             self.counts.add("session_restart_torn");
-            let line = lines::any(&mut self.r, &stored).text();
+            let line = journal_lines::any(&mut self.r, &stored).text();
             text.extend(&line[..self.r.below(line.len())]);
         }
         let opened = self.open(stored.me, text, text.len(), Expected::Opened(&stored))?;

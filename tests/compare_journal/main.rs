@@ -1,72 +1,25 @@
 //! `compare_journal COUNT SEED`: the proved opening against the twin's, on at
 //! least COUNT journals drawn from SEED: such as boxes wrote, made of random lines,
-//! cut, and with a rule broken. Beside them single lines over a record. What
-//! belongs to one number depends on the seed and that number only, so a run
-//! repeats exactly.
+//! cut, and with a rule broken. Beside them single lines over a record.
 
 use std::process::ExitCode;
 
-#[path = "compare_journal/broken.rs"]
-mod broken;
+use support::broken_lines::Broken;
+use support::comparison::{self, Comparison, Different};
+use support::counts::{Counts, Name};
+use support::journal_lines::Stored;
+use support::journals::Journal;
+use support::numbers::{COMMIT, LAST, NUMBERS, TERM};
+use support::random::Random;
+use support::records::{Record, LAST_TERM};
+use twin::flat_record;
 
-#[path = "compare_journal/call.rs"]
-mod call;
+mod around_a_journal;
+mod boxes_that_write;
+mod opening_by_both;
+mod single_lines;
 
-#[path = "counts.rs"]
-mod counts;
-
-#[path = "damage.rs"]
-mod damage;
-
-#[path = "guarded.rs"]
-mod guarded;
-
-#[path = "compare_journal/journals.rs"]
-mod journals;
-
-#[allow(dead_code)] // frames have a program of their own
-#[path = "library.rs"]
-mod library;
-
-#[path = "compare_journal/lines.rs"]
-mod lines;
-
-#[allow(dead_code)] // the box's own form is for the other programs
-#[path = "twin/node.rs"]
-mod node;
-
-#[path = "random.rs"]
-mod random;
-
-#[allow(dead_code)] // not every frame is for a box that writes
-#[path = "compare_node/received.rs"]
-mod received;
-
-#[allow(dead_code)] // parks start from nothing here
-#[path = "twin/records.rs"]
-mod records;
-
-#[path = "compare_journal/replays.rs"]
-mod replays;
-
-#[path = "compare_journal/sessions.rs"]
-mod sessions;
-
-#[allow(dead_code)] // the box has a program of its own
-#[path = "sides.rs"]
-mod sides;
-
-#[path = "compare_journal/variants.rs"]
-mod variants;
-
-use broken::Broken;
-use call::{Call, Difference, Done, Lent};
-use counts::{Counts, Name};
-use journals::Journal;
-use library::{COMMIT, LAST, NUMBERS, TERM};
-use lines::Stored;
-use random::Random;
-use records::{Record, LAST_TERM};
+use opening_by_both::{Call, Difference, Lent, OpeningByBoth};
 
 /// What is known of a journal without either side.
 #[derive(Clone, Copy)]
@@ -77,7 +30,7 @@ enum Expected<'a> {
     Unknown,
 }
 
-struct Comparison {
+struct JournalComparison {
     r: Random,
     counts: Counts,
     /// Journals taken by both.
@@ -91,13 +44,13 @@ struct Comparison {
 
 /// A restart: what is not stored is 0, and every rule holds.
 fn is_restarted(record: &Record) -> bool {
-    let node = node::from_flat(&record.numbers);
+    let node = flat_record::from_flat(&record.numbers);
     record.numbers[COMMIT..] == [0; NUMBERS - COMMIT]
         && node.is_some_and(|node| node.is_good(&record.terms))
 }
 
 /// What the two agree on may be wrong all the same.
-fn judge(done: &Done, expected: Expected) -> Result<(), Box<Difference>> {
+fn judge(done: &OpeningByBoth, expected: Expected) -> Result<(), Box<Difference>> {
     let record = done.after.record();
     let right = match (done.answer, expected) {
         (0, Expected::Opened(stored)) => Stored::of(&record) == *stored,
@@ -115,16 +68,16 @@ fn judge(done: &Done, expected: Expected) -> Result<(), Box<Difference>> {
     Ok(())
 }
 
-impl Comparison {
-    fn new(seed: u64) -> Comparison {
+impl JournalComparison {
+    fn new(seed: u64) -> JournalComparison {
         let mut r = Random::for_input(seed, 0);
         let record = Record::with_any_log([0; NUMBERS], &mut r);
-        Comparison {
+        JournalComparison {
             lent: Lent::new(&record, &mut r),
             r,
             counts: Counts::default(),
             opened: 0,
-            broken: variants::broken_in_kinds(),
+            broken: around_a_journal::broken_in_kinds(),
             turn: 0,
         }
     }
@@ -139,7 +92,7 @@ impl Comparison {
     ) -> Result<Option<Record>, Box<Difference>> {
         self.opened += 1;
         self.lent.set_text(bytes, &mut self.r);
-        let done = Done::new(Call::Open { me: me as u8 }, &self.lent, length)?;
+        let done = OpeningByBoth::new(Call::Open { me: me as u8 }, &self.lent, length)?;
         judge(&done, expected)?;
         self.counts.add_of("open", done.answer.into());
         let (opened, record) = (done.answer == 0, done.after.record());
@@ -187,11 +140,10 @@ impl Comparison {
         Ok(())
     }
 
-    /// Everything of one number.
-    fn number(&mut self, seed: u64, number: u64) -> Result<(), Box<Difference>> {
+    fn by_number(&mut self, seed: u64, number: u64) -> Result<(), Box<Difference>> {
         self.r = Random::for_input(seed, number);
         // A number's rules follow from it alone, and each number has the next ones.
-        self.turn = variants::BROKEN * number as usize;
+        self.turn = around_a_journal::BROKEN * number as usize;
         let record = Record::with_any_log([self.r.next(); NUMBERS], &mut self.r);
         self.lent = Lent::new(&record, &mut self.r);
         match number % 16 {
@@ -223,37 +175,35 @@ fn wanted() -> Vec<Name> {
         "made_long",
     ];
     names.extend(plain.map(|name| (name, None)));
-    names.extend(sessions::WANTED.map(|name| (name, None)));
-    names.extend(variants::wanted());
-    names.extend(replays::wanted());
+    names.extend(boxes_that_write::WANTED.map(|name| (name, None)));
+    names.extend(around_a_journal::wanted());
+    names.extend(single_lines::wanted());
     names
 }
 
-fn main() -> ExitCode {
-    let numbers: Vec<Option<u64>> = std::env::args()
-        .skip(1)
-        .map(|word| word.parse().ok())
-        .collect();
-    let [Some(count), Some(seed)] = numbers[..] else {
-        eprintln!("usage: compare_journal COUNT SEED");
-        return ExitCode::from(2);
-    };
+impl Comparison for JournalComparison {
+    const NAME: &'static str = "journal";
 
-    let mut comparison = Comparison::new(seed);
-    let mut number = 0;
-    while comparison.opened < count {
-        if let Err(difference) = comparison.number(seed, number) {
-            difference.print();
-            println!("seed {seed}, number {number}");
-            return ExitCode::FAILURE;
-        }
-        number += 1;
+    fn compared(&self) -> u64 {
+        self.opened
     }
-    let opened = comparison.opened;
-    if let Err(name) = comparison.counts.report(&wanted()) {
-        println!("journal: {name} was never reached ({opened} journals, seed {seed})");
-        return ExitCode::FAILURE;
+
+    fn number(&mut self, seed: u64, number: u64) -> Result<(), Different> {
+        self.by_number(seed, number)
+            .map_err(|difference| difference.print())
     }
-    println!("journal: {opened} journals agree (seed {seed})");
-    ExitCode::SUCCESS
+
+    fn cases(&self) -> Vec<(&Counts, Vec<Name>)> {
+        vec![(&self.counts, wanted())]
+    }
+
+    fn inputs(&self) -> String {
+        format!("{} journals", self.opened)
+    }
+}
+
+fn main() -> ExitCode {
+    comparison::run("compare_journal COUNT SEED", |_, seed, more| {
+        more.is_empty().then(|| JournalComparison::new(seed))
+    })
 }

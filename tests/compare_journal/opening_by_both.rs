@@ -1,10 +1,11 @@
 //! One opening, or one line replayed, by both sides with all that it may touch.
 
-use crate::guarded::{hex, middle, middle_mut, same_around, BOTH, GUARD};
-use crate::library::{Numbers, Orders, Sizes, Terms, COMMIT, LAST, NUMBERS, TERM, VOTE};
-use crate::random::Random;
-use crate::records::Record;
-use crate::sides::{Side, OURS, TWIN};
+use support::comparison::Different;
+use support::guarded::{LentRecord, GUARD};
+use support::numbers::{COMMIT, LAST, TERM, VOTE};
+use support::random::Random;
+use support::records::Record;
+use support::sides::{Side, OURS, TWIN};
 
 #[derive(Clone, Copy)]
 pub enum Call {
@@ -16,27 +17,17 @@ pub enum Call {
 /// bytes only.
 #[derive(Clone, PartialEq)]
 pub struct Lent {
-    numbers: [u64; NUMBERS + BOTH],
-    terms: [u32; 256 + BOTH],
-    orders: [u64; 256 + BOTH],
-    sizes: [u64; 2 + BOTH],
+    box_record: LentRecord,
     text: Vec<u8>,
 }
 
 impl Lent {
     /// The record, and around it a pattern that shows what is touched.
     pub fn new(record: &Record, r: &mut Random) -> Lent {
-        let mut lent = Lent {
-            numbers: [r.next(); NUMBERS + BOTH],
-            terms: [r.next() as u32; 256 + BOTH],
-            orders: [r.next(); 256 + BOTH],
-            sizes: [r.next(); 2 + BOTH],
+        Lent {
+            box_record: LentRecord::new(record, r),
             text: Vec::new(),
-        };
-        *middle_mut(&mut lent.numbers) = record.numbers;
-        *middle_mut(&mut lent.terms) = record.terms;
-        *middle_mut(&mut lent.orders) = record.orders;
-        lent
+        }
     }
 
     /// What lies past a text that lacks its end would make a whole line of it.
@@ -53,32 +44,25 @@ impl Lent {
     }
 
     pub fn record(&self) -> Record {
-        Record {
-            numbers: middle(&self.numbers),
-            terms: middle(&self.terms),
-            orders: middle(&self.orders),
-        }
+        self.box_record.record()
     }
 
-    pub fn sizes(&self) -> Sizes {
-        middle(&self.sizes)
+    pub fn sizes(&self) -> [u64; 2] {
+        self.box_record.sizes()
     }
 
-    /// The entries up to the last one are the other's.
-    fn take_log(&mut self, other: &Lent) {
-        let last = other.numbers[GUARD + LAST].min(256) as usize;
-        let log = GUARD..GUARD + last;
-        self.terms[log.clone()].copy_from_slice(&other.terms[log.clone()]);
-        self.orders[log.clone()].copy_from_slice(&other.orders[log]);
+    /// The entries up to the last one are that record's.
+    fn take_log(&mut self, record: &Record) {
+        let last = record.get(LAST).min(256) as usize;
+        let (_, terms, orders, _) = self.box_record.lend();
+        terms[..last].copy_from_slice(&record.terms[..last]);
+        orders[..last].copy_from_slice(&record.orders[..last]);
     }
 }
 
 fn take(side: &Side, call: Call, length: usize, lent: &mut Lent) -> u8 {
-    let numbers: &mut Numbers = middle_mut(&mut lent.numbers);
-    let terms: &mut Terms = middle_mut(&mut lent.terms);
-    let orders: &mut Orders = middle_mut(&mut lent.orders);
-    let sizes: &mut Sizes = middle_mut(&mut lent.sizes);
     let text = &lent.text[GUARD..][..length];
+    let (numbers, terms, orders, sizes) = lent.box_record.lend();
     match call {
         Call::Open { me } => (side.open)(me, text, numbers, terms, orders, sizes),
         Call::Replay => (side.replay)(text, numbers, terms, orders),
@@ -86,18 +70,22 @@ fn take(side: &Side, call: Call, length: usize, lent: &mut Lent) -> u8 {
 }
 
 /// A call on which both sides agreed.
-pub struct Done<'a> {
-    pub call: Call,
-    pub before: &'a Lent,
+pub struct OpeningByBoth<'a> {
+    call: Call,
+    before: &'a Lent,
     /// Of the text, the bytes lent.
-    pub length: usize,
+    length: usize,
     pub answer: u8,
     pub after: Lent,
 }
 
-impl<'a> Done<'a> {
+impl<'a> OpeningByBoth<'a> {
     /// Both take the call with so many bytes of the text.
-    pub fn new(call: Call, before: &'a Lent, length: usize) -> Result<Done<'a>, Box<Difference>> {
+    pub fn new(
+        call: Call,
+        before: &'a Lent,
+        length: usize,
+    ) -> Result<OpeningByBoth<'a>, Box<Difference>> {
         let (mut by_us, mut by_twin) = (before.clone(), before.clone());
         let answer = take(&OURS, call, length, &mut by_us);
         let twin_answer = take(&TWIN, call, length, &mut by_twin);
@@ -111,7 +99,7 @@ impl<'a> Done<'a> {
                 twin: (twin_answer, by_twin),
             }));
         }
-        let done = Done {
+        let done = OpeningByBoth {
             call,
             before,
             length,
@@ -128,23 +116,24 @@ impl<'a> Done<'a> {
     /// count is fixed by the last line feed.
     fn allowed(&self) -> Lent {
         let mut allowed = self.before.clone();
+        let after = self.after.record();
+        let (numbers, _, _, sizes) = allowed.box_record.lend();
         match (self.call, self.answer) {
             (Call::Open { .. }, 0) => {
-                allowed.numbers[GUARD..][..NUMBERS]
-                    .copy_from_slice(&self.after.numbers[GUARD..][..NUMBERS]);
-                allowed.take_log(&self.after);
+                *numbers = after.numbers;
                 let text = self.before.text(self.length);
                 let line_feed = text.iter().rposition(|&byte| byte == b'\n');
-                allowed.sizes[GUARD] = line_feed.map_or(0, |place| place as u64 + 1);
+                sizes[0] = line_feed.map_or(0, |place| place as u64 + 1);
+                allowed.take_log(&after);
             }
-            (Call::Open { .. }, 10) => allowed.sizes[GUARD + 1] = self.after.sizes[GUARD + 1],
+            (Call::Open { .. }, 10) => sizes[1] = self.after.sizes()[1],
             (Call::Replay, 0) => {
                 for place in [TERM, VOTE, LAST] {
-                    allowed.numbers[GUARD + place] = self.after.numbers[GUARD + place];
+                    numbers[place] = after.get(place);
                 }
                 // A line leaves a restart's record: what is not stored is 0.
-                allowed.numbers[GUARD + COMMIT..GUARD + NUMBERS].fill(0);
-                allowed.take_log(&self.after);
+                numbers[COMMIT..].fill(0);
+                allowed.take_log(&after);
             }
             _ => {}
         }
@@ -180,7 +169,7 @@ pub struct Difference {
 const PRINTED: usize = 20_000;
 
 impl Difference {
-    pub fn print(&self) {
+    pub fn print(&self) -> Different {
         println!("difference: {}", self.what);
         match self.call {
             Call::Open { me } => println!("open, box {me}"),
@@ -199,35 +188,14 @@ impl Difference {
             println!("{side}: answer {answer}");
             self.print_side(after);
         }
+        Different
     }
 
-    /// Of the log what is not as before.
     fn print_side(&self, lent: &Lent) {
-        let (record, before) = (lent.record(), self.before.record());
-        println!("  numbers {}", hex(&record.numbers));
-        println!("  sizes {}", hex(&lent.sizes()));
-        for place in 0..256 {
-            let entry = (record.terms[place], record.orders[place]);
-            let old = (before.terms[place], before.orders[place]);
-            if entry != old {
-                println!(
-                    "  place {place}: {:x} {:x}, was {:x} {:x}",
-                    entry.0, entry.1, old.0, old.1
-                );
-            }
-        }
-        if !self.is_around(lent) {
+        let before = &self.before;
+        lent.box_record.print(&before.box_record);
+        if !lent.box_record.is_around(&before.box_record) || lent.text != before.text {
             println!("  and something beside what was lent");
         }
-    }
-
-    /// Around what was lent, this is as before.
-    fn is_around(&self, lent: &Lent) -> bool {
-        let before = &self.before;
-        same_around(&lent.numbers, &before.numbers, NUMBERS)
-            && same_around(&lent.terms, &before.terms, 256)
-            && same_around(&lent.orders, &before.orders, 256)
-            && same_around(&lent.sizes, &before.sizes, 2)
-            && lent.text == before.text
     }
 }

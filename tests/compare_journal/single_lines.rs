@@ -1,14 +1,15 @@
 //! Single lines over a record: a journal's own, one after the other, bad ones, and
 //! lines over a record that nobody has checked.
 
-use crate::call::{Call, Difference, Done, Lent};
-use crate::counts::Name;
-use crate::journals::Journal;
-use crate::library::{COMMIT, LAST, ME, MEMBERS, NUMBERS, TERM, VOTE};
-use crate::lines::{self, Line, Stored, LONGEST_LOG, MOST_ENTRIES};
-use crate::random::Random;
-use crate::records::{self, boxes, term_within, Record, LAST_TERM};
-use crate::Comparison;
+use support::counts::Name;
+use support::journal_lines::{self, Line, Stored, LONGEST_LOG, MOST_ENTRIES};
+use support::journals::Journal;
+use support::numbers::{COMMIT, LAST, ME, MEMBERS, NUMBERS, TERM, VOTE};
+use support::random::Random;
+use support::records::{self, boxes, term_within, Record, LAST_TERM};
+
+use crate::opening_by_both::{Call, Difference, Lent, OpeningByBoth};
+use crate::JournalComparison;
 
 /// Longer journals are not taken line by line.
 const LINES: usize = 300;
@@ -152,7 +153,7 @@ fn near(r: &mut Random, record: &Record) -> Line {
     .with(entries)
 }
 
-impl Comparison {
+impl JournalComparison {
     /// The record with the stored part; the other numbers, and what stands past
     /// the log, are any.
     fn record_of(&mut self, stored: &Stored) -> Record {
@@ -173,7 +174,7 @@ impl Comparison {
     ) -> Result<u8, Box<Difference>> {
         let mut lent = Lent::new(record, &mut self.r);
         lent.set_text(bytes, &mut self.r);
-        let done = Done::new(Call::Replay, &lent, length)?;
+        let done = OpeningByBoth::new(Call::Replay, &lent, length)?;
         let right = match (done.answer, expected) {
             (0, Replayed::Next(next) | Replayed::NextOrBad(next)) => done.after.record() == *next,
             (10, Replayed::Bad | Replayed::NextOrBad(_)) => true,
@@ -215,8 +216,8 @@ impl Comparison {
 
     /// Bytes that are not one whole line, before the journal's next one.
     fn not_one_line(&mut self, journal: &Journal, record: &Record) -> Result<(), Box<Difference>> {
-        let line = lines::any(&mut self.r, journal.last());
-        let next = lines::any(&mut self.r, &journal.last().after(&line));
+        let line = journal_lines::any(&mut self.r, journal.last());
+        let next = journal_lines::any(&mut self.r, &journal.last().after(&line));
         let (text, head) = (line.text(), journal.last().head());
         let both = [text.clone(), next.text()].concat();
         for (name, bytes, length) in [
