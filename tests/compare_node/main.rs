@@ -12,8 +12,8 @@ use support::random::Random;
 use support::received_frames;
 use support::records::{self, Record};
 
-mod boxes_together;
 mod cases_met;
+mod park;
 mod step_by_both;
 mod steps;
 
@@ -167,7 +167,7 @@ fn wanted() -> Vec<Name> {
     names.extend(DAMAGES.map(|(name, _)| (name, None)));
     let others = ["empty", "head", "random_bytes", "joined", "session"];
     let short = ["5_by_journal", "5_by_room", "5_by_both"];
-    let plain = others.iter().chain(&short).chain(&boxes_together::WANTED);
+    let plain = others.iter().chain(&short).chain(&park::WANTED);
     names.extend(plain.map(|name| (*name, None)));
     names.extend(cases_met::wanted());
     names

@@ -3,15 +3,17 @@
 //! overtaken, a box is cut off for a while, and lines come that are none. Or the
 //! box is alone with random frames near its record, of which many cut.
 
-use crate::counts::Counts;
-use crate::node::session::Running;
-use crate::node::LEADER;
-use crate::noise;
-use crate::random::Random;
-use crate::received;
-use crate::records::{self, boxes};
-use crate::session::{self, Session};
-use crate::Trouble;
+use support::counts::Counts;
+use support::random::Random;
+use support::received_frames;
+use support::records::{self, boxes};
+use support::under_way::UnderWay;
+use twin::record::LEADER;
+use twin::session::Running;
+
+use crate::expected_answers::{answer, started, Session};
+use crate::no_lines::{self, order_line};
+use crate::trouble::Trouble;
 
 const MOST_FRAMES: usize = 40;
 
@@ -32,17 +34,9 @@ pub const WANTED: [&str; 8] = [
 struct Park {
     session: Session,
     others: Vec<Running>,
-    /// Sent and not yet lost, the oldest first.
-    frames: Vec<Vec<u8>>,
-    /// The number of a box that nothing comes from or goes to, or 0.
-    cut_off: u8,
+    frames: UnderWay,
     /// Nothing goes wrong, and orders come fast.
     calm: bool,
-}
-
-/// What a member's box takes: a letter, an order or a frame.
-fn order_line(r: &mut Random) -> Vec<u8> {
-    format!("o{:016x}\n", records::order(r)).into()
 }
 
 impl Park {
@@ -50,11 +44,8 @@ impl Park {
         let others = boxes(mask).into_iter().filter(|&number| number != me);
         Park {
             session: Session::new(me, mask),
-            others: others
-                .map(|number| session::started(number, mask))
-                .collect(),
-            frames: Vec::new(),
-            cut_off: 0,
+            others: others.map(|number| started(number, mask)).collect(),
+            frames: UnderWay::at_most(MOST_FRAMES),
             calm: r.one_in(4),
         }
     }
@@ -92,19 +83,18 @@ impl Park {
             false => {
                 let mut others = self.others.iter_mut();
                 let other = others.find(|running| running.node.me == number);
-                other.map_or(Vec::new(), |running| session::answer(running, line).1)
+                other.map_or(Vec::new(), |running| answer(running, line).1)
             }
         };
-        self.frames.extend(frames);
-        while self.frames.len() > MOST_FRAMES {
-            self.frames.remove(r.below(MOST_FRAMES));
-        }
+        self.frames.send(frames, r);
     }
 
     fn event(&mut self, r: &mut Random, counts: &mut Counts) {
         let any = self.any(r);
         let leaders = self.leaders();
-        let unheard = !leaders.iter().any(|number| *number != self.cut_off);
+        let unheard = !leaders
+            .iter()
+            .any(|number| u64::from(*number) != self.frames.cut_off);
         let leader = match leaders[..] {
             [] => any,
             _ => r.of(&leaders),
@@ -118,7 +108,7 @@ impl Park {
             23 => self.at(leader, b"t\n", r, counts),
             24 | 25 if !self.calm => {
                 counts.add("park_cut_off");
-                self.cut_off = r.of(&[0, 0, any, leader]);
+                self.frames.cut_off = r.of(&[0, 0, any, leader]).into();
             }
             26..=31 if !leaders.is_empty() => self.at(leader, b"p\n", r, counts),
             32..=50 if !leaders.is_empty() => self.at(leader, &order, r, counts),
@@ -127,22 +117,13 @@ impl Park {
         }
     }
 
-    /// The oldest frame or any; it may come again, or be lost.
+    /// A frame that is under way arrives, or is lost.
     fn deliver(&mut self, r: &mut Random, counts: &mut Counts) {
-        if self.frames.is_empty() {
+        let Some(frame) = self.frames.next(r) else {
             return;
-        }
-        let which = match r.one_in(2) {
-            true => 0,
-            false => r.below(self.frames.len()),
         };
-        let frame = match r.one_in(8) {
-            true => self.frames[which].clone(),
-            false => self.frames.remove(which),
-        };
-        let [from, to] = [frame[5], frame[7]].map(|digit| digit - b'0');
-        if ![from, to].contains(&self.cut_off) {
-            self.at(to, &frame, r, counts);
+        if let Some(to) = self.frames.reaches(&frame) {
+            self.at(to as u8, &frame, r, counts);
         }
     }
 }
@@ -152,9 +133,9 @@ impl Park {
 fn forged(r: &mut Random, session: &Session) -> Vec<u8> {
     let record = session.record();
     let mut frame = match r.below(400) {
-        0 => received::frame(r, &record),
-        1..=40 => received::misaddressed(r, &record),
-        _ => noise::frame(r, &record),
+        0 => received_frames::frame(r, &record),
+        1..=40 => received_frames::misaddressed(r, &record),
+        _ => no_lines::frame(r, &record),
     };
     if frame.starts_with(b"0103") && !r.one_in(20) {
         frame[28..32].copy_from_slice(b"0000");
@@ -166,15 +147,15 @@ fn forged(r: &mut Random, session: &Session) -> Vec<u8> {
 fn disturb(r: &mut Random, session: &mut Session, counts: &mut Counts) -> Result<(), Box<Trouble>> {
     let record = session.record();
     let line = match r.below(200) {
-        0 => noise::long(r, &record, counts),
-        1..=12 => noise::short(r, &record, counts),
+        0 => no_lines::long(r, &record, counts),
+        1..=12 => no_lines::short(r, &record, counts),
         13..=80 => {
             // Whether this is a frame for all that is left to the twin.
-            let bytes = noise::damaged(r, &record, counts);
+            let bytes = no_lines::damaged(r, &record, counts);
             session.say(&bytes, counts);
             return Ok(());
         }
-        _ => noise::noise(r, &record, counts),
+        _ => no_lines::any(r, &record, counts),
     };
     let &(start, said) = session.ends.last().expect("the head");
     let begun = session.input.len() > start;
@@ -250,7 +231,7 @@ pub fn at_edge(r: &mut Random, counts: &mut Counts) -> Result<Session, Box<Troub
         0 => b"t\n".to_vec(),
         1 => b"p\n".to_vec(),
         2 => order_line(r),
-        _ => noise::frame(r, &session.record()),
+        _ => no_lines::frame(r, &session.record()),
     };
     let left = block - session.input.len();
     if r.one_in(2) {
@@ -301,7 +282,7 @@ fn end(r: &mut Random, session: &mut Session, counts: &mut Counts) -> Result<(),
         let line = order_line(r);
         let torn = match r.below(4) {
             0 => b"t\n".to_vec(),
-            1 => received::frame(r, &session.record()),
+            1 => received_frames::frame(r, &session.record()),
             2 => vec![b'0'; r.of(&[131, 65_536, 70_000])],
             _ => line,
         };

@@ -1,11 +1,13 @@
 //! A session: a head and lines for its box, with what has to be said to each. The
 //! box is the twin's; lines are told apart here once more, simply.
 
-use crate::cases::{self, Taken};
-use crate::counts::Counts;
-use crate::node::session::{Running, LONGEST_ANSWER};
-use crate::node::to_flat;
-use crate::records::Record;
+use support::counts::Counts;
+use support::journal_lines::head;
+use support::records::Record;
+use twin::flat_record::to_flat;
+use twin::session::{Running, LONGEST_ANSWER};
+
+use crate::lines_met::{self, Taken};
 
 pub struct Session {
     pub input: Vec<u8>,
@@ -23,10 +25,6 @@ pub fn answer(running: &mut Running, line: &[u8]) -> (Vec<u8>, Vec<Vec<u8>>) {
     let frames = lines.filter(|line| line.starts_with(b"010") && line[3] != b'0');
     let frames = frames.map(<[u8]>::to_vec).collect();
     (room[..bytes].to_vec(), frames)
-}
-
-pub fn head(me: u64, mask: u64) -> Vec<u8> {
-    format!("0111{me:02x}{mask:02x}\n").into()
 }
 
 pub fn started(me: u64, mask: u64) -> Running {
@@ -81,7 +79,7 @@ impl Session {
             answer: &answer,
             after: &self.running,
         };
-        cases::count(&taken, counts);
+        lines_met::count(&taken, counts);
         self.output.extend(answer);
         self.ends.push((self.input.len(), self.output.len()));
         frames

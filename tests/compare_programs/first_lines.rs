@@ -1,20 +1,22 @@
 //! Inputs whose first line is no head, with what is said to them: nothing without
 //! a line feed, else n12 and nothing more.
 
-use crate::broken::HEADS;
-use crate::counts::{Counts, Name};
-use crate::damage;
-use crate::noise;
-use crate::random::Random;
-use crate::received;
-use crate::records::{self, Record};
-use crate::session::{self, Session};
+use support::bad_heads::HEADS;
+use support::counts::{Counts, Name};
+use support::damage;
+use support::journal_lines;
+use support::random::Random;
+use support::received_frames;
+use support::records::{self, Record};
+
+use crate::expected_answers::Session;
+use crate::no_lines::{self, order_line};
 
 type Make = fn(&mut Random, &Record) -> Vec<u8>;
 
 fn head(record: &Record) -> Vec<u8> {
     let [me, mask, ..] = record.numbers;
-    session::head(me, mask)
+    journal_lines::head(me, mask)
 }
 
 /// Whole lines that are no head of any box.
@@ -22,10 +24,8 @@ const LINES: [(&str, Make); 9] = [
     ("first_empty", |_, _| b"\n".to_vec()),
     ("first_timeout", |_, _| b"t\n".to_vec()),
     ("first_prompt", |_, _| b"p\n".to_vec()),
-    ("first_order", |r, _| {
-        format!("o{:016x}\n", records::order(r)).into()
-    }),
-    ("first_frame", received::frame),
+    ("first_order", |r, _| order_line(r)),
+    ("first_frame", received_frames::frame),
     ("first_journal_line", |_, record| {
         format!("0110{:02x}0000000100000000\n", record.numbers[0]).into()
     }),
@@ -36,7 +36,7 @@ const LINES: [(&str, Make); 9] = [
     }),
     ("first_long", |r, record| {
         let mut line = head(record);
-        let more = r.of(&noise::LONG) - line.len();
+        let more = r.of(&no_lines::LONG) - line.len();
         line.splice(0..0, vec![b'0'; more]);
         line
     }),
@@ -59,7 +59,7 @@ const TORN: [(&str, Make); 4] = [
     ("torn_line", |r, _| {
         r.of(&[&b"t"[..], b"no head", b"\0"]).to_vec()
     }),
-    ("torn_long_line", |r, _| vec![b'0'; r.of(&noise::LONG)]),
+    ("torn_long_line", |r, _| vec![b'0'; r.of(&no_lines::LONG)]),
 ];
 
 /// A journal's bad head that is bad whichever box is asked for, and has a line feed.

@@ -1,12 +1,13 @@
 //! Inputs of the journal's program, with what has to be said where the journal was
 //! made so that this is known without either side.
 
-use crate::broken::{Broken, HEADS, LOGS, TERMS_AND_VOTES, TEXTS};
-use crate::counts::{Counts, Name};
-use crate::damage::{self, DAMAGES};
-use crate::journals::Journal;
-use crate::lines::{self, Stored, KINDS};
-use crate::random::Random;
+use support::bad_heads::HEADS;
+use support::broken_lines::{rules, Broken};
+use support::counts::{Counts, Name};
+use support::damage::{self, DAMAGES};
+use support::journal_lines::{self, Stored, KINDS};
+use support::journals::Journal;
+use support::random::Random;
 
 /// The box asked for and the journal's bytes.
 pub struct Opening {
@@ -35,16 +36,11 @@ const WANTED: [&str; 15] = [
     "bad_line_above_65535",
 ];
 
-fn rules() -> Vec<&'static Broken> {
-    let rules = TERMS_AND_VOTES.iter().chain(&LOGS).chain(&TEXTS);
-    rules.collect()
-}
-
 pub fn wanted() -> Vec<Name> {
     let mut names = WANTED.map(|name| (name, None)).to_vec();
     names.extend(ASKED.map(|(name, _)| (name, None)));
     names.extend(HEADS.iter().map(|(name, _)| (*name, None)));
-    names.extend(rules().iter().map(|rule| (rule.name, None)));
+    names.extend(rules().map(|rule| (rule.name, None)));
     names
 }
 
@@ -143,7 +139,7 @@ fn torn(r: &mut Random, journal: &Journal, counts: &mut Counts) -> Opening {
             counts.add("torn_long");
             vec![r.of(b"0t\0 "); r.of(&[131, 65_535, 65_536, 65_537, 200_000])]
         }
-        _ => lines::any(r, journal.last()).text(),
+        _ => journal_lines::any(r, journal.last()).text(),
     };
     counts.add("torn");
     torn.retain(|&byte| byte != b'\n');
@@ -266,10 +262,8 @@ pub fn about(r: &mut Random, journal: &Journal, turn: usize, counts: &mut Counts
     let doubled = [&journal.text, &b"\n"[..]].concat();
     counts.add_each(&[(number > 0xffff, "bad_line_above_65535")]);
     all.push(opening(journal, &doubled, bad_line(number)));
-    let in_turn = rules().into_iter().cycle().skip(turn % rules().len());
-    let full = rules()
-        .into_iter()
-        .filter(|rule| rule.name == "past_256" && last.last() > 252);
+    let in_turn = rules().cycle().skip(turn % rules().count());
+    let full = rules().filter(|rule| rule.name == "past_256" && last.last() > 252);
     for rule in in_turn.take(RULES).chain(full) {
         if let Some(opening) = broken(r, journal, rule) {
             counts.add(rule.name);

@@ -1,10 +1,11 @@
 //! What lines do at a box, by name, so that a run that never did one of them is
 //! no success.
 
-use crate::counts::{Counts, Name};
-use crate::node::frames::{self, Message};
-use crate::node::session::Running;
-use crate::node::{Node, CANDIDATE, FOLLOWER, LEADER};
+use support::counts::{Counts, Name};
+use twin::frames::{self, LONGEST_TEXT};
+use twin::message::Message;
+use twin::record::{Node, CANDIDATE, FOLLOWER, LEADER};
+use twin::session::Running;
 
 /// A line with the box before and after it, and what was said.
 pub struct Taken<'a> {
@@ -18,7 +19,7 @@ pub struct Taken<'a> {
 const REFUSALS: [u64; 8] = [1, 2, 3, 4, 6, 7, 8, 9];
 
 /// Six appends of four entries and the line of one entry.
-const LONGEST: usize = 6 * 131 + 47;
+const LONGEST: usize = 6 * LONGEST_TEXT + 47;
 
 const WANTED: [&str; 38] = [
     "said_nothing",

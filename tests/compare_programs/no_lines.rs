@@ -1,11 +1,11 @@
-//! Lines that are none, and first lines that are no head.
+//! Lines that are none, whatever the box.
 
-use crate::counts::Counts;
-use crate::damage::{self, DAMAGES};
-use crate::random::Random;
-use crate::received;
-use crate::records::{self, Record};
-use crate::session;
+use support::counts::Counts;
+use support::damage::{self, DAMAGES};
+use support::journal_lines::head;
+use support::random::Random;
+use support::received_frames;
+use support::records::{self, Record};
 
 type Make = fn(&mut Random, &Record) -> Vec<u8>;
 
@@ -13,10 +13,15 @@ fn order(r: &mut Random) -> String {
     format!("o{:016x}", records::order(r))
 }
 
+/// A good one, for those that need it.
+pub fn order_line(r: &mut Random) -> Vec<u8> {
+    (order(r) + "\n").into()
+}
+
 /// Of none of the last terms, in which a box stays for good.
 pub fn frame(r: &mut Random, record: &Record) -> Vec<u8> {
     loop {
-        let frame = received::frame(r, record);
+        let frame = received_frames::frame(r, record);
         if !frame[8..].starts_with(b"ffff") {
             return frame;
         }
@@ -28,7 +33,7 @@ fn good_line(r: &mut Random, record: &Record) -> Vec<u8> {
     match r.below(4) {
         0 => b"t\n".to_vec(),
         1 => b"p\n".to_vec(),
-        2 => (order(r) + "\n").into(),
+        2 => order_line(r),
         _ => frame(r, record),
     }
 }
@@ -52,7 +57,7 @@ fn put(r: &mut Random, mut line: Vec<u8>, byte: u8) -> Vec<u8> {
 }
 
 /// One line each, and never one that is taken.
-pub const NOISE: [(&str, Make); 25] = [
+pub const KINDS: [(&str, Make); 25] = [
     ("empty", |_, _| b"\n".to_vec()),
     ("blank", |_, _| b" \n".to_vec()),
     ("blank_in_front", |r, record| {
@@ -121,11 +126,11 @@ pub const NOISE: [(&str, Make); 25] = [
     }),
     ("head_later", |_, record| {
         let [me, mask, ..] = record.numbers;
-        session::head(me, mask)
+        head(me, mask)
     }),
     ("head_of_other_later", |r, _| {
         let (me, mask) = records::membership(r);
-        session::head(me, mask)
+        head(me, mask)
     }),
     ("journal_line_later", |r, record| {
         let [me, _, term, vote, last, ..] = record.numbers;
@@ -153,8 +158,8 @@ pub const LONG: [usize; 10] = [
     4095, 4096, 4097, 8193, 65_534, 65_535, 65_536, 65_537, 65_538, 200_000,
 ];
 
-pub fn noise(r: &mut Random, record: &Record, counts: &mut Counts) -> Vec<u8> {
-    let (name, make) = r.of(&NOISE);
+pub fn any(r: &mut Random, record: &Record, counts: &mut Counts) -> Vec<u8> {
+    let (name, make) = r.of(&KINDS);
     counts.add(name);
     make(r, record)
 }

@@ -5,6 +5,7 @@
 pub mod comparison;
 pub mod counts;
 pub mod random;
+pub mod text;
 pub mod worked_out;
 
 // The two sides, and what is lent to them.

@@ -22,9 +22,3 @@ pub fn print(program: &str, input: &[u8], output: &[u8]) -> ExitCode {
         }
     }
 }
-
-/// Lines of text; the blanks between fields are for the reader of a list only.
-pub fn lines(lines: &[&str]) -> String {
-    let lines = lines.iter().map(|line| line.replace(' ', "") + "\n");
-    lines.collect()
-}

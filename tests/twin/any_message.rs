@@ -120,9 +120,10 @@ impl Node {
 
 #[cfg(test)]
 mod checks {
-    use crate::checked_box::{lines, CheckedBox};
+    use crate::checked_box::CheckedBox;
     use crate::record::{handed_out, FOLLOWER};
     use crate::refusals::*;
+    use support::text::lines;
 
     #[test]
     fn messages_that_are_refused() {

@@ -58,8 +58,9 @@ impl Node {
 #[cfg(test)]
 mod checks {
     use super::*;
-    use crate::checked_box::{lines, CheckedBox};
+    use crate::checked_box::CheckedBox;
     use crate::record::FOLLOWER;
+    use support::text::lines;
 
     /// The follower of 01's readings: term 4, log terms 1, 1, 2.
     fn reading_follower(commit: u16) -> CheckedBox {

@@ -38,7 +38,8 @@ impl Node {
 
 #[cfg(test)]
 mod checks {
-    use crate::checked_box::{lines, CheckedBox};
+    use crate::checked_box::CheckedBox;
+    use support::text::lines;
 
     #[test]
     fn a_leader_brings_a_box_up() {

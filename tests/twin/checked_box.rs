@@ -114,11 +114,3 @@ impl CheckedBox {
         &self.terms[..usize::from(self.node.last)]
     }
 }
-
-/// The blanks between fields are for the reader of these checks only.
-pub fn lines(lines: &[&str]) -> String {
-    lines
-        .iter()
-        .map(|line| line.replace(' ', "") + "\n")
-        .collect()
-}

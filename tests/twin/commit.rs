@@ -22,7 +22,8 @@ impl Node {
 
 #[cfg(test)]
 mod checks {
-    use crate::checked_box::{lines, CheckedBox};
+    use crate::checked_box::CheckedBox;
+    use support::text::lines;
 
     #[test]
     fn a_leader_commits_its_own_term_only() {

@@ -57,8 +57,8 @@ pub fn open(me: u8, text: &[u8], terms: &mut Terms, orders: &mut Orders) -> Open
 #[cfg(test)]
 mod checks {
     use super::*;
-    use crate::checked_box::lines as spelled;
     use crate::record::CANDIDATE;
+    use support::text::lines as spelled;
 
     const HEAD: &str = "01 11 01 07";
 

@@ -101,7 +101,7 @@ pub fn run(input: impl Read, mut output: impl Write) -> Result<()> {
 #[cfg(test)]
 mod checks {
     use super::*;
-    use crate::checked_box::lines as spelled;
+    use support::text::lines as spelled;
 
     fn said(input: &[u8]) -> String {
         let mut output = Vec::new();

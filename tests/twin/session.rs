@@ -124,7 +124,7 @@ fn first(line: Line, room: &mut [u8]) -> Option<(Running, usize)> {
 #[cfg(test)]
 mod checks {
     use super::*;
-    use crate::checked_box::lines;
+    use support::text::lines;
 
     /// What is said to these bytes.
     fn said(input: &[u8]) -> String {

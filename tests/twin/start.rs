@@ -20,9 +20,10 @@ pub fn start(me: u8, mask: u8, room: &mut [u8]) -> Started {
 #[cfg(test)]
 mod checks {
     use super::*;
-    use crate::checked_box::{lines, CheckedBox};
+    use crate::checked_box::CheckedBox;
     use crate::record::handed_out;
     use crate::refusals::NOT_LEADER;
+    use support::text::lines;
 
     #[test]
     fn starting() {

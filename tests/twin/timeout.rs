@@ -52,8 +52,9 @@ impl Node {
 #[cfg(test)]
 mod checks {
     use super::*;
-    use crate::checked_box::{lines, CheckedBox};
+    use crate::checked_box::CheckedBox;
     use crate::refusals::NOT_FOR_THIS_BOX;
+    use support::text::lines;
 
     #[test]
     fn one_member() {

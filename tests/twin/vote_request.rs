@@ -48,7 +48,8 @@ impl Node {
 
 #[cfg(test)]
 mod checks {
-    use crate::checked_box::{lines, CheckedBox};
+    use crate::checked_box::CheckedBox;
+    use support::text::lines;
 
     #[test]
     fn newer_logs() {

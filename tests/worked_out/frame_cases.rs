@@ -1,4 +1,5 @@
-//! Cases for the frame reader and writer, made by hand.
+//! The input and output of `crates/frame_cases`: cases for the frame reader and
+//! writer, made by hand.
 //!
 //! `frame_cases input` prints the cases, each ended by `;`.
 //! `frame_cases output` prints what a program that reads them has to answer:
@@ -6,14 +7,10 @@
 
 use std::process::ExitCode;
 
-#[path = "files.rs"]
-mod files;
-
-#[allow(dead_code)] // the flat form is for the comparison and the benchmark
-#[path = "twin/frames.rs"]
-mod frames;
-
-use frames::{Message, LONGEST_TEXT};
+use support::text::lines;
+use support::worked_out;
+use twin::frames::{self, LONGEST_TEXT};
+use twin::message::Message;
 
 struct Case {
     bytes: Vec<u8>,
@@ -23,11 +20,8 @@ struct Case {
 
 struct Cases(Vec<Case>);
 
-/// The blanks between fields are for the reader of this list only.
 fn frame(text: &str) -> Vec<u8> {
-    let mut bytes = text.replace(' ', "").into_bytes();
-    bytes.push(b'\n');
-    bytes
+    lines(&[text]).into_bytes()
 }
 
 /// An append from 1 to 2: term, previous index and term, and commit as digits,
@@ -515,5 +509,5 @@ fn main() -> ExitCode {
     }
     input.extend_from_slice(TAIL);
 
-    files::print("frame_cases", &input, &output)
+    worked_out::print("frame_cases", &input, &output)
 }

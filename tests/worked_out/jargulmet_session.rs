@@ -1,17 +1,13 @@
-//! One session of 01's small program, box 1 of mask 07, with what it says to each
-//! line worked out by hand.
+//! The input and output of `crates/jargulmet`: one session of 01's small program, box
+//! 1 of mask 07, with what it says to each line worked out by hand.
 //!
-//! `program_session input` prints the session.
-//! `program_session output` prints what the program has to say to it.
+//! `jargulmet_session input` prints the session.
+//! `jargulmet_session output` prints what the program has to say to it.
 
 use std::process::ExitCode;
 
-#[path = "files.rs"]
-mod files;
-
-#[allow(dead_code)] // the rest is for the comparisons
-#[path = "twin/node.rs"]
-mod node;
+use support::text::lines;
+use support::worked_out;
 
 struct Step {
     line: Vec<u8>,
@@ -21,18 +17,12 @@ struct Step {
 
 struct Steps(Vec<Step>);
 
-/// The blanks between fields are for the reader of this list only.
-fn text(lines: &[&str]) -> String {
-    let lines = lines.iter().map(|line| line.replace(' ', "") + "\n");
-    lines.collect()
-}
-
 impl Steps {
     /// A line, and the lines that are said to it.
     fn says(&mut self, line: &str, answer: &[&str]) {
         self.0.push(Step {
-            line: text(&[line]).into_bytes(),
-            answer: text(answer),
+            line: lines(&[line]).into_bytes(),
+            answer: lines(answer),
         });
     }
 
@@ -425,7 +415,7 @@ const TAIL: &[u8] = b"t";
 
 fn twin(input: &[u8]) -> Vec<u8> {
     let mut output = Vec::new();
-    node::session::run(input, &mut output).expect("memory");
+    twin::session::run(input, &mut output).expect("memory");
     output
 }
 
@@ -450,5 +440,5 @@ fn main() -> ExitCode {
         return ExitCode::FAILURE;
     }
 
-    files::print("program_session", &input, &output)
+    worked_out::print("jargulmet_session", &input, &output)
 }

@@ -1,18 +1,13 @@
-//! One input of the journal's program: box 3 of mask 1f, in whose journal votes are
-//! given, entries added and cut, and whose last line is torn. What is stored in the
-//! end is worked out here on a plain list.
+//! The input and output of `crates/replay`: a journal of box 3 of mask 1f, in which
+//! votes are given, entries added and cut, and whose last line is torn. What is stored
+//! in the end is worked out here on a plain list.
 //!
-//! `program_journal input` prints the box asked for and its journal.
-//! `program_journal output` prints what the program has to say to it.
+//! `replay_journal input` prints the box asked for and its journal.
+//! `replay_journal output` prints what the program has to say to it.
 
 use std::process::ExitCode;
 
-#[path = "files.rs"]
-mod files;
-
-#[allow(dead_code)] // the rest is for the comparisons
-#[path = "twin/node.rs"]
-mod node;
+use support::worked_out;
 
 const ME: u8 = 3;
 const MASK: u8 = 0x1f;
@@ -133,11 +128,11 @@ fn main() -> ExitCode {
     }
 
     let mut twin = Vec::new();
-    node::replaying::run(input.as_bytes(), &mut twin).expect("memory");
+    twin::replay::run(input.as_bytes(), &mut twin).expect("memory");
     if twin != output.as_bytes() {
         eprintln!("by hand:\n{output}the twin:\n{}", twin.escape_ascii());
         return ExitCode::FAILURE;
     }
 
-    files::print("program_journal", input.as_bytes(), output.as_bytes())
+    worked_out::print("replay_journal", input.as_bytes(), output.as_bytes())
 }
