@@ -3,7 +3,8 @@
 
 use std::collections::BTreeMap;
 
-use crate::node::session::{Running, LONGEST_ANSWER};
+use support::measure::spread;
+use twin::session::{Running, LONGEST_ANSWER};
 
 pub const LINES: usize = 100_000;
 
@@ -16,11 +17,6 @@ pub const STANDING: u16 = 8;
 
 /// Kinds of lines: appends by the entries that they add.
 const APPENDS: [&str; 5] = ["append 0", "append 1", "append 2", "append 3", "append 4"];
-
-/// Bits spread over all digits of 8 bytes.
-pub fn spread(n: u64) -> u64 {
-    (n + 1).wrapping_mul(0x9e37_79b9_7f4a_7c15)
-}
 
 #[derive(Clone)]
 pub struct Session {

@@ -23,3 +23,6 @@ pub mod journals;
 pub mod received_frames;
 pub mod records;
 pub mod under_way;
+
+// For `bench/`.
+pub mod measure;

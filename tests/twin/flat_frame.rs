@@ -11,6 +11,7 @@ pub const FIELDS: usize = 17;
 
 const FIRST_ENTRY: usize = FIELDS - 2 * MOST_ENTRIES;
 
+#[inline(always)]
 pub fn to_flat(m: &Message) -> [u64; FIELDS] {
     let mut fields = [0; FIELDS];
     let mut head = |kind: u64, from: u8, to: u8, term: u32| {
@@ -74,6 +75,7 @@ pub fn to_flat(m: &Message) -> [u64; FIELDS] {
 }
 
 /// None where the numbers fit no message: the writer refuses such fields.
+#[inline(always)]
 pub fn from_flat(fields: &[u64; FIELDS]) -> Option<Message> {
     let &[kind, from, to, term, index, past, commit, yes, count, ref pairs @ ..] = fields;
     let held = usize::try_from(count)

@@ -13,6 +13,7 @@ pub const NUMBERS: usize = 8 + 2 * BOXES;
 
 pub type Numbers = [u64; NUMBERS];
 
+#[inline(always)]
 pub fn to_flat(node: &Node) -> Numbers {
     let mut numbers = [0; NUMBERS];
     numbers[..8].copy_from_slice(&[
@@ -35,6 +36,7 @@ pub fn to_flat(node: &Node) -> Numbers {
 }
 
 /// None where a number does not fit its field: such a record breaks a rule.
+#[inline(always)]
 pub fn from_flat(numbers: &Numbers) -> Option<Node> {
     let &[me, members, term, vote, last, commit, role, votes, ref indexes @ ..] = numbers;
     let mut next = [0; BOXES];

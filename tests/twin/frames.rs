@@ -26,7 +26,10 @@ pub(crate) const ENTRY_TEXT: usize = 2 * ENTRY;
 /// Digits and line feed of the longest frame.
 pub const LONGEST_TEXT: usize = APPEND_TEXT + ENTRY_TEXT * MOST_ENTRIES;
 
+// Both are inlined: a message that is taken apart at once need not be put together.
+
 /// The message, exactly when the bytes are one frame, its line feed included.
+#[inline(always)]
 pub fn read(bytes: &[u8]) -> Option<Message> {
     let text = bytes.strip_suffix(b"\n")?;
     let mut digits = Digits::of(text);
@@ -86,6 +89,7 @@ pub fn read(bytes: &[u8]) -> Option<Message> {
 
 /// Writes the frame with its line feed and gives its length; on a refusal the
 /// room is as before, and bytes past the frame always are.
+#[inline(always)]
 pub fn write(m: &Message, room: &mut [u8]) -> Result<usize, u8> {
     if !is_frame(m) {
         return Err(NOT_A_FRAME);

@@ -8,21 +8,16 @@ use std::fs::File;
 use std::process::{Command, ExitCode, Stdio};
 use std::time::Instant;
 
-#[allow(dead_code)] // only the box of a session is needed
-#[path = "../tests/twin/node.rs"]
-mod node;
+use support::measure::{self, spread};
 
-#[path = "programs/sessions.rs"]
-mod sessions;
-
-#[path = "programs/shares.rs"]
+mod measured_input;
 mod shares;
 
-use sessions::{spread, HEAD, LINES, ME};
+use measured_input::{HEAD, LINES, ME};
 
 const FOLDER: &str = "target/bench";
 const OURS: [&str; 2] = ["target/bin/jargulmet", "target/bin/replay"];
-const TWIN: [&str; 2] = ["target/bench/twin_jargulmet", "target/bench/twin_replay"];
+const TWIN: [&str; 2] = ["target/tests/twin_jargulmet", "target/tests/twin_replay"];
 
 /// Odd, so that the median is one round's reading.
 const ROUNDS: usize = 15;
@@ -96,11 +91,7 @@ fn measure(name: &str, programs: [&str; 2], file: &str) {
             readings[side].push(run(programs[side], file));
         }
     }
-    let [ours, twin] = readings.map(|mut readings| {
-        readings.sort_by(f64::total_cmp);
-        readings[ROUNDS / 2]
-    });
-    println!("{name} {ours:.2} {twin:.2} {:.2}", ours / twin);
+    measure::print(name, readings, 2);
 }
 
 fn main() -> ExitCode {
@@ -120,9 +111,9 @@ fn main() -> ExitCode {
         shares::print(session);
         return ExitCode::SUCCESS;
     }
-    let mixed = written("session", &sessions::mixed().text);
-    let appends = written("appends", &sessions::appends().text);
-    let orders = written("orders", &sessions::orders().text);
+    let mixed = written("session", &measured_input::mixed().text);
+    let appends = written("appends", &measured_input::appends().text);
+    let orders = written("orders", &measured_input::orders().text);
     measure(&format!("session_{LINES}_ms"), session, &mixed);
     measure("session_appends_ms", session, &appends);
     measure("session_orders_ms", session, &orders);
