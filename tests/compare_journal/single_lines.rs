@@ -1,12 +1,13 @@
 //! Single lines over a record: a journal's own, one after the other, bad ones, and
 //! lines over a record that nobody has checked.
 
+use support::broken_records::{self, ANY, BROKEN};
 use support::counts::Name;
 use support::journal_lines::{self, Line, Stored, LONGEST_LOG, MOST_ENTRIES};
 use support::journals::Journal;
 use support::numbers::{COMMIT, LAST, ME, MEMBERS, NUMBERS, TERM, VOTE};
 use support::random::Random;
-use support::records::{self, boxes, term_within, Record, LAST_TERM};
+use support::records::{self, boxes, term_within, Record, GOOD, LAST_TERM};
 
 use crate::opening_by_both::{Call, Difference, Lent, OpeningByBoth};
 use crate::JournalComparison;
@@ -237,9 +238,9 @@ impl JournalComparison {
         for step in 0..12 {
             let place = (12 * turn + step) as usize;
             let (_, make) = match step % 4 {
-                0 => records::GOOD[place % records::GOOD.len()],
-                1 => records::ANY[place % records::ANY.len()],
-                _ => records::BROKEN[place % records::BROKEN.len()],
+                0 => GOOD[place % GOOD.len()],
+                1 => ANY[place % ANY.len()],
+                _ => BROKEN[place % BROKEN.len()],
             };
             let record = make(&mut self.r);
             for _ in 0..8 {
@@ -316,7 +317,7 @@ impl JournalComparison {
 
     /// A number past its field, with a line that the record would take or not.
     fn too_large(&mut self, place: usize) -> Result<(), Box<Difference>> {
-        let record = records::too_large(&mut self.r, place);
+        let record = broken_records::too_large(&mut self.r, place);
         let line = near(&mut self.r, &record).text();
         let length = match self.r.one_in(3) {
             true => {
@@ -333,5 +334,5 @@ impl JournalComparison {
 
 /// Each number fits its field.
 fn fits(record: &Record) -> bool {
-    (0..NUMBERS).all(|place| record.get(place) >> records::width(place) == 0)
+    (0..NUMBERS).all(|place| record.get(place) >> broken_records::width(place) == 0)
 }

@@ -4,18 +4,21 @@
 
 use std::process::ExitCode;
 
+use support::broken_records::{self, ANY, BROKEN};
 use support::comparison::{self, Comparison, Different};
 use support::counts::{Counts, Name};
 use support::damage::DAMAGES;
 use support::numbers::NUMBERS;
 use support::random::Random;
 use support::received_frames;
-use support::records::{self, Record};
+use support::records::{self, Record, GOOD};
 
+mod append_cases;
 mod cases_met;
 mod park;
 mod step_by_both;
 mod steps;
+mod vote_cases;
 
 use step_by_both::{Difference, Event};
 use steps::Rules;
@@ -96,7 +99,7 @@ impl NodeComparison {
         self.counts.add("session");
         let first = match self.r.below(4) {
             0 => self.started_box()?,
-            role => Some(records::GOOD[[2, 2, 1, 0][role]].1(&mut self.r)),
+            role => Some(GOOD[[2, 2, 1, 0][role]].1(&mut self.r)),
         };
         let Some(mut record) = first else {
             return Ok(());
@@ -119,7 +122,7 @@ impl NodeComparison {
 
     fn by_number(&mut self, number: u64) -> Result<(), Box<Difference>> {
         let turn = (number / 16) as usize;
-        let broken = |turn: usize| (records::BROKEN[turn % records::BROKEN.len()], Rules::Broken);
+        let broken = |turn: usize| (BROKEN[turn % BROKEN.len()], Rules::Broken);
         let ((name, make), rules) = match number % 16 {
             0 => return self.start(),
             1 => return self.session(),
@@ -129,13 +132,13 @@ impl NodeComparison {
             5 => {
                 let place = turn % NUMBERS;
                 self.counts.add_of("too_large", place as u64);
-                let record = records::too_large(&mut self.r, place);
+                let record = broken_records::too_large(&mut self.r, place);
                 return self.all_events(&record, Rules::Broken, 2);
             }
-            6 => (records::ANY[turn % records::ANY.len()], Rules::Unknown),
-            7..=9 => (records::GOOD[0], Rules::Kept),
-            10 | 11 => (records::GOOD[1], Rules::Kept),
-            _ => (records::GOOD[2], Rules::Kept),
+            6 => (ANY[turn % ANY.len()], Rules::Unknown),
+            7..=9 => (GOOD[0], Rules::Kept),
+            10 | 11 => (GOOD[1], Rules::Kept),
+            _ => (GOOD[2], Rules::Kept),
         };
         self.counts.add(name);
         let record = make(&mut self.r);
@@ -158,10 +161,7 @@ fn wanted() -> Vec<Name> {
     ] {
         names.extend(answers.iter().map(|answer| (event, Some(*answer))));
     }
-    let made = records::GOOD
-        .iter()
-        .chain(&records::BROKEN)
-        .chain(&records::ANY);
+    let made = GOOD.iter().chain(&BROKEN).chain(&ANY);
     names.extend(made.map(|(name, _)| (*name, None)));
     names.extend((0..NUMBERS).map(|place| ("too_large", Some(place as u64))));
     names.extend(DAMAGES.map(|(name, _)| (name, None)));

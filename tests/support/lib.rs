@@ -17,6 +17,7 @@ pub mod sides;
 // What is drawn: records, frames for them, journals, and damage to all of these.
 pub mod bad_heads;
 pub mod broken_lines;
+pub mod broken_records;
 pub mod damage;
 pub mod journal_lines;
 pub mod journals;
