@@ -2,19 +2,10 @@
 //! proved box is compared with and measured against. It stands on nothing but the
 //! standard library; its checks draw from `support`'s random numbers.
 
-pub mod digits;
-pub mod flat_frame;
-pub mod flat_record;
-pub mod frames;
-pub mod lines;
+// The box's record, and when the box says no.
 pub mod members;
-pub mod message;
-pub mod opening;
 pub mod record;
 pub mod refusals;
-pub mod replay;
-pub mod session;
-pub mod step;
 
 // What each event does, a paragraph of 01 a file.
 mod any_message;
@@ -25,17 +16,31 @@ mod commit;
 mod order;
 mod prompt;
 mod start;
+pub mod step;
 mod timeout;
 mod vote_answer;
 mod vote_request;
 mod winning;
 
+// Frames and journal lines.
+mod digits;
+pub mod frames;
 mod journal;
+pub mod message;
+pub mod opening;
+
+// The two programs.
+pub mod lines;
+pub mod replay;
+pub mod session;
+
+// The same on numbers, for the comparison with the proved library.
+pub mod flat_frame;
+pub mod flat_record;
 
 #[cfg(test)]
 mod boxes_together;
 #[cfg(test)]
 mod checked_box;
 
-pub use record::Node;
 pub use start::start;
