@@ -4,16 +4,10 @@
 use std::hint::black_box;
 use std::time::{Duration, Instant};
 
-#[allow(dead_code)] // only the flat functions are measured
-#[path = "../tests/twin/frames.rs"]
-mod frames;
-
-#[allow(dead_code)] // the box has a program of its own
-#[path = "../tests/library.rs"]
-mod library;
-
-use frames::{FIELDS, LONGEST_TEXT};
-use library::{frame_read, frame_write};
+use support::library::{frame_read, frame_write};
+use support::measure::{self, spread};
+use twin::flat_frame::{self, FIELDS};
+use twin::frames::LONGEST_TEXT;
 
 /// Both sides are called through pointers of one type, so neither is inlined.
 type Read = unsafe extern "C" fn(*const u8, usize, *mut u64) -> u8;
@@ -21,12 +15,12 @@ type Write = unsafe extern "C" fn(*const u64, *mut u8, usize) -> u8;
 
 unsafe extern "C" fn twin_read(text: *const u8, text_len: usize, fields: *mut u64) -> u8 {
     let text = unsafe { std::slice::from_raw_parts(text, text_len) };
-    frames::flat_read(text, unsafe { &mut *fields.cast() })
+    flat_frame::read(text, unsafe { &mut *fields.cast() })
 }
 
 unsafe extern "C" fn twin_write(fields: *const u64, room: *mut u8, room_len: usize) -> u8 {
     let room = unsafe { std::slice::from_raw_parts_mut(room, room_len) };
-    frames::flat_write(unsafe { &*fields.cast() }, room)
+    flat_frame::write(unsafe { &*fields.cast() }, room)
 }
 
 /// A message's text and fields.
@@ -42,8 +36,6 @@ const INPUTS: u64 = 32;
 const ROUNDS: usize = 21;
 const ROUND: Duration = Duration::from_millis(6);
 
-/// The text comes from the twin's measured function: a second caller of what
-/// lies below it would change what the compiler inlines there.
 fn input(fields: [u64; FIELDS]) -> Input {
     let mut text = vec![0; LONGEST_TEXT];
     let answer = unsafe { twin_write(fields.as_ptr(), text.as_mut_ptr(), text.len()) };
@@ -54,11 +46,6 @@ fn input(fields: [u64; FIELDS]) -> Input {
         .expect("a frame");
     text.truncate(end + 1);
     Input { text, fields }
-}
-
-/// Bits spread over all digits of 8 bytes.
-fn spread(n: u64) -> u64 {
-    (n + 1).wrapping_mul(0x9e37_79b9_7f4a_7c15)
 }
 
 fn append4(n: u64) -> Input {
@@ -157,11 +144,7 @@ fn measure(name: &str, ours: &dyn Fn(u32), twin: &dyn Fn(u32)) {
             readings.push(nanos / f64::from(*passes) / INPUTS as f64);
         }
     }
-    let [ours, twin] = readings.map(|mut readings| {
-        readings.sort_by(f64::total_cmp);
-        readings[ROUNDS / 2]
-    });
-    println!("{name} {ours:.1} {twin:.1} {:.2}", ours / twin);
+    measure::print(name, readings, 1);
 }
 
 fn main() {

@@ -4,20 +4,9 @@
 use std::hint::black_box;
 use std::time::Instant;
 
-#[allow(dead_code)] // only the flat functions are measured
-#[path = "../tests/twin/node.rs"]
-mod node;
-
-#[allow(dead_code)] // frames and boxes have programs of their own
-#[path = "../tests/library.rs"]
-mod library;
-
-#[allow(dead_code)] // not every call is measured
-#[path = "../tests/sides.rs"]
-mod sides;
-
-use library::{Numbers, Orders, Sizes, Terms};
-use sides::{Side, OURS, TWIN};
+use support::measure::{self, spread};
+use support::numbers::{Numbers, Orders, Sizes, Terms, NUMBERS};
+use support::sides::{Side, OURS, TWIN};
 
 const LINES: u64 = 100_000;
 
@@ -34,7 +23,7 @@ struct Lent {
 }
 
 const LENT: Lent = Lent {
-    numbers: [0; library::NUMBERS],
+    numbers: [0; NUMBERS],
     terms: [0; 256],
     orders: [0; 256],
     sizes: [0; 2],
@@ -43,11 +32,6 @@ const LENT: Lent = Lent {
 type Read = fn(&Side, &[u8], &mut Lent) -> u8;
 
 const HEAD: &str = "0111037f\n";
-
-/// Bits spread over all digits of 8 bytes.
-fn spread(n: u64) -> u64 {
-    (n + 1).wrapping_mul(0x9e37_79b9_7f4a_7c15)
-}
 
 /// Box 3's line number n: in a term that rises now and then, with so many
 /// entries of it.
@@ -115,11 +99,7 @@ fn measure(name: &str, text: &[u8], whole: usize, read: Read) {
             readings.push(1000.0 * start.elapsed().as_secs_f64());
         }
     }
-    let [ours, twin] = readings.map(|mut readings| {
-        readings.sort_by(f64::total_cmp);
-        readings[ROUNDS / 2]
-    });
-    println!("{name} {ours:.2} {twin:.2} {:.2}", ours / twin);
+    measure::print(name, readings, 2);
 }
 
 fn main() {

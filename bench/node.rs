@@ -4,21 +4,11 @@
 use std::hint::black_box;
 use std::time::{Duration, Instant};
 
-#[allow(dead_code)] // only the flat functions are measured
-#[path = "../tests/twin/node.rs"]
-mod node;
-
-#[allow(dead_code)] // frames have a program of their own
-#[path = "../tests/library.rs"]
-mod library;
-
-#[allow(dead_code)] // not every call is measured
-#[path = "../tests/sides.rs"]
-mod sides;
-
-use library::{LAST, MATCH, ME, NEXT, TERM};
-use node::{Node, Numbers, Orders, Terms, FOLLOWER, LEADER};
-use sides::{Side, OURS, TWIN};
+use support::measure::{self, spread};
+use support::numbers::{Numbers, Orders, Terms, LAST, MATCH, ME, NEXT, NUMBERS, TERM};
+use support::sides::{Side, OURS, TWIN};
+use twin::flat_record::to_flat;
+use twin::record::{Node, FOLLOWER, LEADER};
 
 const JOURNAL: usize = 128;
 const ROOM: usize = 400;
@@ -47,11 +37,6 @@ const INPUTS: u64 = 16;
 /// Odd, so that the median is one round's reading.
 const ROUNDS: usize = 21;
 const ROUND: Duration = Duration::from_millis(7);
-
-/// Bits spread over all digits of 8 bytes.
-fn spread(n: u64) -> u64 {
-    (n + 1).wrapping_mul(0x9e37_79b9_7f4a_7c15)
-}
 
 /// A box of seven with some 100 entries; a leader has sent all of them, and
 /// most boxes have them.
@@ -83,8 +68,8 @@ fn input(n: u64, role: u8) -> Input {
         *order = spread(n + place as u64);
     }
     Input {
-        record: node::to_flat(&node),
-        numbers: [0; node::NUMBERS],
+        record: to_flat(&node),
+        numbers: [0; NUMBERS],
         terms,
         orders,
         order: spread(n),
@@ -242,11 +227,7 @@ fn measure(name: &str, mut inputs: Vec<Input>, sizes: [u64; 2], step: Step) {
             readings.push(nanos / f64::from(passes) / INPUTS as f64);
         }
     }
-    let [ours, twin] = readings.map(|mut readings| {
-        readings.sort_by(f64::total_cmp);
-        readings[ROUNDS / 2]
-    });
-    println!("{name} {ours:.1} {twin:.1} {:.2}", ours / twin);
+    measure::print(name, readings, 1);
 }
 
 fn main() {

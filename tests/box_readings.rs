@@ -1,12 +1,11 @@
 //! 01's 'Readings from the bench' of a box, run on the proved library. Where 01
 //! gives bytes, these are expected; else what its words and its table make.
 
-#[allow(dead_code)] // the other functions have readings elsewhere
-#[path = "library.rs"]
-mod library;
-
-use library::{Numbers, Orders, Sizes, Terms};
-use library::{CANDIDATE, COMMIT, FOLLOWER, LAST, LEADER, ME, MEMBERS, NEXT, ROLE, TERM, VOTE};
+use support::library;
+use support::numbers::{Numbers, Orders, Sizes, Terms};
+use support::numbers::{CANDIDATE, COMMIT, FOLLOWER, LAST, LEADER, ME, MEMBERS, NEXT, ROLE};
+use support::numbers::{TERM, VOTE};
+use support::text::lines;
 
 /// A box as the library's callers hold it, and what is lent to it.
 #[derive(Clone, PartialEq)]
@@ -110,13 +109,6 @@ impl Bench {
     fn log(&self) -> &[u32] {
         &self.terms[..self.numbers[LAST] as usize]
     }
-}
-
-fn lines(lines: &[&str]) -> String {
-    lines
-        .iter()
-        .map(|line| line.replace(' ', "") + "\n")
-        .collect()
 }
 
 /// A journal line or none, and the messages.

@@ -1,8 +1,10 @@
 //! Where the time goes: sessions that have one kind of line each, and what such a line
 //! costs.
 
-use crate::sessions::{self, Session, HEAD, ME, STANDING};
-use crate::{check, node, order_in, run, written};
+use twin::record::LEADER;
+
+use crate::measured_input::{self, Session, HEAD, ME, STANDING};
+use crate::{check, order_in, run, written};
 
 /// Some kinds of lines take no more than the start of a program if they are few.
 const LINES: usize = 300_000;
@@ -66,7 +68,7 @@ const KINDS: [Kind; 16] = [
         s.append("", s.term() + 1, STANDING, 0);
     }),
     ("order", follower, |s| {
-        if s.last() == 256 || s.running.node.role != node::LEADER {
+        if s.last() == 256 || s.running.node.role != LEADER {
             s.cut(4);
             s.elect();
         }
@@ -150,7 +152,7 @@ fn of_kind(programs: [&str; 2], (name, start, line): Kind) -> Measured {
 
 /// A table, with the share that a kind of line has in the mixed session's time.
 pub fn print(programs: [&str; 2]) {
-    let (empty, mixed) = (Session::new(), sessions::mixed());
+    let (empty, mixed) = (Session::new(), measured_input::mixed());
     // As many bytes, but no line is one.
     let none = Session {
         text: HEAD.to_string() + &mixed.text[HEAD.len()..].replace(|c| c != '\n', "#"),

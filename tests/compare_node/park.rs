@@ -1,21 +1,21 @@
 //! Several boxes that send each other what they say, while frames are lost,
 //! repeated and overtaken, boxes lose power and one is cut off.
 
-use crate::call::{Difference, Event};
-use crate::library::{COMMIT, FOLLOWER, LAST, LEADER, ME, NUMBERS, ROLE};
-use crate::received;
-use crate::records::{self, Record};
-use crate::{Comparison, Rules};
+use support::numbers::{COMMIT, FOLLOWER, LAST, LEADER, ME, NUMBERS, ROLE};
+use support::received_frames;
+use support::records::{self, Record};
+use support::under_way::UnderWay;
+
+use crate::step_by_both::{Difference, Event};
+use crate::steps::Rules;
+use crate::NodeComparison;
 
 const EVENTS: usize = 240;
 const MOST_FRAMES: usize = 32;
 
 struct Park {
     boxes: Vec<Record>,
-    /// Sent and not yet lost, the oldest first.
-    frames: Vec<Vec<u8>>,
-    /// The number of a box that nothing comes from or goes to, or 0.
-    cut_off: u64,
+    frames: UnderWay,
 }
 
 impl Park {
@@ -46,7 +46,7 @@ fn is_cut(before: &Record, after: &Record) -> bool {
     after.get(LAST) < before.get(LAST) || before.terms[..both] != after.terms[..both]
 }
 
-impl Comparison {
+impl NodeComparison {
     pub fn park(&mut self) -> Result<(), Box<Difference>> {
         self.counts.add("park");
         let boxes = match self.r.one_in(3) {
@@ -55,8 +55,7 @@ impl Comparison {
         };
         let mut park = Park {
             boxes,
-            frames: Vec::new(),
-            cut_off: 0,
+            frames: UnderWay::at_most(MOST_FRAMES),
         };
         for _ in 0..EVENTS {
             self.park_event(&mut park)?;
@@ -91,7 +90,7 @@ impl Comparison {
             [] => any,
             _ => self.r.of(&leaders),
         };
-        let unheard = leaders.is_empty() || park.number(leader) == park.cut_off;
+        let unheard = leaders.is_empty() || park.number(leader) == park.frames.cut_off;
         let order = records::order(&mut self.r);
         match self.r.below(200) {
             0 => self.at_box(park, any, Event::Timeout),
@@ -108,7 +107,7 @@ impl Comparison {
             }
             32..=36 => {
                 let leader = park.number(leader);
-                park.cut_off = self.r.of(&[0, 0, park.number(any), leader]);
+                park.frames.cut_off = self.r.of(&[0, 0, park.number(any), leader]);
                 Ok(())
             }
             37 | 38 => self.disturb(&park.boxes[any]),
@@ -119,33 +118,27 @@ impl Comparison {
     /// A frame that should not have come; what it does is forgotten.
     fn disturb(&mut self, record: &Record) -> Result<(), Box<Difference>> {
         let text = match self.r.below(3) {
-            0 => received::frame(&mut self.r, record),
-            1 => received::misaddressed(&mut self.r, record),
-            _ => received::damaged(&mut self.r, record).1,
+            0 => received_frames::frame(&mut self.r, record),
+            1 => received_frames::misaddressed(&mut self.r, record),
+            _ => received_frames::damaged(&mut self.r, record).1,
         };
         self.step(Event::Receive(&text), record, Rules::Kept)?;
         Ok(())
     }
 
-    /// The oldest frame or any, which may come again; or it is lost.
+    /// A frame that is under way arrives, or is lost.
     fn deliver(&mut self, park: &mut Park) -> Result<(), Box<Difference>> {
-        if park.frames.is_empty() {
+        let Some(frame) = park.frames.next(&mut self.r) else {
             return Ok(());
-        }
-        let which = match self.r.one_in(2) {
-            true => 0,
-            false => self.r.below(park.frames.len()),
         };
-        let frame = match self.r.one_in(8) {
-            true => park.frames[which].clone(),
-            false => park.frames.remove(which),
-        };
-        let [from, to] = [frame[5], frame[7]].map(|digit| u64::from(digit - b'0'));
-        if self.r.one_in(16) || [from, to].contains(&park.cut_off) {
-            return Ok(());
+        let lost = self.r.one_in(16);
+        match park.frames.reaches(&frame) {
+            Some(to) if !lost => {
+                let at = (0..park.boxes.len()).find(|at| park.number(*at) == to);
+                self.at_box(park, at.expect("a member"), Event::Receive(&frame))
+            }
+            _ => Ok(()),
         }
-        let at = (0..park.boxes.len()).find(|at| park.number(*at) == to);
-        self.at_box(park, at.expect("a member"), Event::Receive(&frame))
     }
 
     /// A box of the park takes the event, and its messages are on their way.
@@ -158,22 +151,15 @@ impl Comparison {
         let heard = matches!(event, Event::Receive(_));
         let won = before.get(ROLE) != LEADER && after.get(ROLE) == LEADER;
         let committed = before.get(COMMIT) < after.get(COMMIT);
-        for (holds, name) in [
+        self.counts.add_each(&[
             (heard && won, "park_won"),
             (is_cut(before, &after), "park_cut"),
             (committed && after.get(ROLE) == FOLLOWER, "park_committed"),
             (step.refusal == 4, "park_4"),
             (step.refusal == 9, "park_9"),
-        ] {
-            if holds {
-                self.counts.add(name);
-            }
-        }
+        ]);
         park.boxes[at] = after;
-        park.frames.extend(step.messages);
-        while park.frames.len() > MOST_FRAMES {
-            park.frames.remove(self.r.below(MOST_FRAMES));
-        }
+        park.frames.send(step.messages, &mut self.r);
         Ok(())
     }
 }

@@ -1,11 +1,12 @@
 //! How an input is cut into pieces, and after which of them an answer is awaited.
 
-use crate::counts::Counts;
-use crate::node::frames;
-use crate::node::stream::LONGEST_LINE;
-use crate::program::{Piece, Then};
-use crate::random::Random;
-use crate::session::Session;
+use support::counts::Counts;
+use support::random::Random;
+use twin::frames;
+use twin::lines::LONGEST_LINE;
+
+use crate::expected_answers::Session;
+use crate::program_run::{Piece, Then};
 
 /// A piece that is awaited costs some 20 microseconds, and much more on a busy machine.
 const MOST_PIECES: usize = 600;

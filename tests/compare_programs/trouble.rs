@@ -1,7 +1,7 @@
 //! What is printed where the two differ, or agree on what is wrong.
 
-use crate::program::Heard;
-use crate::session::Session;
+use crate::expected_answers::Session;
+use crate::program_run::Heard;
 
 pub struct Trouble {
     lines: Vec<String>,

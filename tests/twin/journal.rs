@@ -1,41 +1,73 @@
-//! The journal of 01 a second time, in plain Rust and from 01's text alone:
-//! opening a whole one, and one line of it over the record so far.
+//! Journal: head 01, 11, box, mask; then, for each step that changes the stored part
+//! and no other, 01, 10, box, term 4, vote 1, kept 2, count 1, entries. Both written
+//! and read, and the rules of a line over the record before it.
 
-use super::frames::{Digits, Entry};
-use super::{
-    fresh, from_flat, is_member, is_membership, term_at, to_flat, Node, Numbers, Orders, Terms,
-    BAD_RECORD, LONGEST_LOG, MOST_ENTRIES,
-};
+use crate::append_to::write_entries;
+use crate::digits::{encode, Digits};
+use crate::frames::ENTRY_TEXT;
+use crate::members::{is_member, is_membership};
+use crate::message::{Entry, MOST_ENTRIES};
+use crate::record::{fresh, Node, Orders, Terms, LONGEST_LOG};
 
-/// Opening: a whole line after the head breaks a rule.
-pub const BAD_LINE: u8 = 10;
-/// Opening: no whole line, or the first is no proper head.
-pub const NO_HEAD: u8 = 11;
+// Digits and line feed; of the line without its entries.
+pub(crate) const HEAD_TEXT: usize = 2 * 4 + 1;
+const LINE_TEXT: usize = 2 * 11 + 1;
 
-#[derive(Clone, Copy, Debug, PartialEq, Eq)]
-pub enum Refusal {
-    NoHead,
-    /// The first such line's number, the head being 1.
-    BadLine(u64),
+/// A line with so many entries.
+pub(crate) const fn line_text(count: usize) -> usize {
+    LINE_TEXT + ENTRY_TEXT * count
 }
 
-/// The record after a restart, and the bytes up to and with the last line feed.
-pub type Opened = Result<(Node, usize), Refusal>;
+/// The text has just the room.
+pub(crate) fn write_head(me: u8, mask: u8, text: &mut [u8]) {
+    encode([0x01, 0x11, me, mask], text);
+    text[HEAD_TEXT - 1] = b'\n';
+}
+
+/// The fresh box that the head is of.
+pub(crate) fn head(bytes: &[u8]) -> Option<Node> {
+    let mut digits = Digits::of(bytes.strip_suffix(b"\n")?);
+    let start = [digits.byte()?, digits.byte()?];
+    let (me, mask) = (digits.byte()?, digits.byte()?);
+    let proper = start == [0x01, 0x11] && digits.are_all() && is_membership(me, mask);
+    proper.then(|| fresh(me, mask))
+}
+
+/// The same, if it is the one asked for.
+pub(crate) fn head_of(me: u8, bytes: &[u8]) -> Option<Node> {
+    head(bytes).filter(|node| node.me == me)
+}
+
+impl Node {
+    /// The journal line of a step that kept so many entries; those past them
+    /// were added.
+    pub(crate) fn write_line(&self, kept: u16, terms: &Terms, orders: &Orders, journal: &mut [u8]) {
+        let added = usize::from(kept)..usize::from(self.last);
+        let count = added.len() as u8;
+        let [t1, t2, t3, t4] = self.term.to_be_bytes();
+        let [k1, k2] = kept.to_be_bytes();
+        let fixed = [
+            0x01, 0x10, self.me, t1, t2, t3, t4, self.vote, k1, k2, count,
+        ];
+        encode(fixed, journal);
+        write_entries(added, terms, orders, &mut journal[LINE_TEXT - 1..]);
+    }
+}
 
 /// A journal line's fields; entries past `count` are not part of it.
-struct Line {
+pub(crate) struct Line {
     me: u8,
-    term: u32,
-    vote: u8,
-    kept: u16,
-    count: u8,
-    entries: [Entry; MOST_ENTRIES as usize],
+    pub(crate) term: u32,
+    pub(crate) vote: u8,
+    pub(crate) kept: u16,
+    pub(crate) count: u8,
+    entries: [Entry; MOST_ENTRIES],
 }
 
 impl Line {
     /// The line that the bytes spell, whatever its fields; its line feed
     /// belongs to it.
-    fn read(bytes: &[u8]) -> Option<Line> {
+    pub(crate) fn read(bytes: &[u8]) -> Option<Line> {
         let mut digits = Digits::of(bytes.strip_suffix(b"\n")?);
         let start = [digits.byte()?, digits.byte()?];
         let mut line = Line {
@@ -53,19 +85,19 @@ impl Line {
         (start == [0x01, 0x10] && digits.are_all()).then_some(line)
     }
 
-    fn entries(&self) -> &[Entry] {
+    pub(crate) fn entries(&self) -> &[Entry] {
         &self.entries[..usize::from(self.count)]
     }
 
     /// Kept is at most the length, kept + count at most 256.
-    fn fits(&self, node: &Node) -> bool {
+    pub(crate) fn fits(&self, node: &Node) -> bool {
         self.kept <= node.last
             && usize::from(self.kept) + usize::from(self.count) <= usize::from(LONGEST_LOG)
     }
 
     /// Not below the record's term, for nobody or a member, and not another
     /// vote within a term that has one.
-    fn follows(&self, node: &Node) -> bool {
+    pub(crate) fn follows(&self, node: &Node) -> bool {
         let free = self.term > node.term || node.vote == 0 || self.vote == node.vote;
         self.me == node.me
             && self.term >= node.term.max(1)
@@ -74,7 +106,7 @@ impl Line {
     }
 
     /// The rule of a frame's entries, after this term.
-    fn in_order(&self, previous: u32) -> bool {
+    pub(crate) fn in_order(&self, previous: u32) -> bool {
         let mut past = previous;
         let mut rising = true;
         for entry in self.entries() {
@@ -83,344 +115,5 @@ impl Line {
         }
         // Terms that never fall are all at most the line's if the last one is.
         rising && past <= self.term
-    }
-}
-
-/// One whole line over the record so far: the next record, a restart's, or None
-/// with the log untouched. Of the record nothing is known but that its numbers fit.
-pub fn replay(node: Node, bytes: &[u8], terms: &mut Terms, orders: &mut Orders) -> Option<Node> {
-    let line = Line::read(bytes)?;
-    // Whether it fits comes first: kept is a place in the log then.
-    if !(line.fits(&node) && line.follows(&node) && line.in_order(term_at(terms, line.kept))) {
-        return None;
-    }
-    let kept = usize::from(line.kept);
-    for (place, entry) in (kept..).zip(line.entries()) {
-        terms[place] = entry.term;
-        orders[place] = u64::from_be_bytes(entry.order);
-    }
-    Some(Node {
-        term: line.term,
-        vote: line.vote,
-        last: line.kept + u16::from(line.count),
-        ..fresh(node.me, node.members)
-    })
-}
-
-/// The fresh box that the head is of.
-pub fn head(bytes: &[u8]) -> Option<Node> {
-    let mut digits = Digits::of(bytes.strip_suffix(b"\n")?);
-    let start = [digits.byte()?, digits.byte()?];
-    let (me, mask) = (digits.byte()?, digits.byte()?);
-    let proper = start == [0x01, 0x11] && digits.are_all() && is_membership(me, mask);
-    proper.then(|| fresh(me, mask))
-}
-
-/// The same, if it is the one asked for.
-pub fn head_of(me: u8, bytes: &[u8]) -> Option<Node> {
-    head(bytes).filter(|node| node.me == me)
-}
-
-/// On a refusal the log is as it was, and past the last entry always.
-pub fn open(me: u8, text: &[u8], terms: &mut Terms, orders: &mut Orders) -> Opened {
-    let last_line_feed = text.iter().rposition(|&byte| byte == b'\n');
-    let whole = last_line_feed.map_or(0, |place| place + 1);
-    let mut lines = text[..whole].split_inclusive(|&byte| byte == b'\n');
-    let first = lines.next().ok_or(Refusal::NoHead)?;
-    let mut node = head_of(me, first).ok_or(Refusal::NoHead)?;
-
-    // What a later line cuts, or a bad one follows, must not be seen.
-    let mut log: (Terms, Orders) = ([0; LONGEST_LOG as usize], [0; LONGEST_LOG as usize]);
-    for (line, number) in lines.zip(2..) {
-        let next = replay(node, line, &mut log.0, &mut log.1);
-        node = next.ok_or(Refusal::BadLine(number))?;
-    }
-    let last = usize::from(node.last);
-    terms[..last].copy_from_slice(&log.0[..last]);
-    orders[..last].copy_from_slice(&log.1[..last]);
-    Ok((node, whole))
-}
-
-/// 0 with the record and the first of the sizes, 10 with the second of them, the
-/// line's number, or 11.
-pub fn flat_open(
-    me: u8,
-    text: &[u8],
-    numbers: &mut Numbers,
-    terms: &mut Terms,
-    orders: &mut Orders,
-    sizes: &mut [u64; 2],
-) -> u8 {
-    match open(me, text, terms, orders) {
-        Ok((node, whole)) => {
-            *numbers = to_flat(&node);
-            sizes[0] = whole as u64;
-            0
-        }
-        Err(Refusal::BadLine(number)) => {
-            sizes[1] = number;
-            BAD_LINE
-        }
-        Err(Refusal::NoHead) => NO_HEAD,
-    }
-}
-
-/// 0, 10, or 12 where a number does not fit its field.
-pub fn flat_replay(
-    text: &[u8],
-    numbers: &mut Numbers,
-    terms: &mut Terms,
-    orders: &mut Orders,
-) -> u8 {
-    let Some(node) = from_flat(numbers) else {
-        return BAD_RECORD;
-    };
-    match replay(node, text, terms, orders) {
-        Some(next) => {
-            *numbers = to_flat(&next);
-            0
-        }
-        None => BAD_LINE,
-    }
-}
-
-#[cfg(test)]
-mod checks {
-    use super::super::CANDIDATE;
-    use super::*;
-
-    const HEAD: &str = "01 11 01 07";
-
-    /// The blanks between fields are for the reader of these checks only.
-    fn text(lines: &[&str]) -> Vec<u8> {
-        let lines = lines.iter().map(|line| line.replace(' ', "") + "\n");
-        lines.collect::<String>().into_bytes()
-    }
-
-    /// An order for each entry, which tells where it came from.
-    fn entries(terms: &[u32], from: u64) -> String {
-        let entries = terms.iter().zip(from..);
-        let spelled = entries.map(|(term, order)| format!(" {term:08x} {order:016x}"));
-        spelled.collect()
-    }
-
-    fn line(term: u32, vote: u8, kept: u16, terms: &[u32], from: u64) -> String {
-        let entries = entries(terms, from);
-        format!(
-            "01 10 01 {term:08x} {vote:02x} {kept:04x} {:02x}{entries}",
-            terms.len()
-        )
-    }
-
-    /// Box 1's journal of these lines after the head: the record, and its log's
-    /// terms and orders. A refusal leaves the log alone.
-    fn opened(lines: &[String]) -> Result<(Node, Vec<u32>, Vec<u64>), Refusal> {
-        let lines: Vec<&str> = lines.iter().map(String::as_str).collect();
-        let bytes = text(&[&[HEAD], &lines[..]].concat());
-        let (mut terms, mut orders) = ([77; 256], [88; 256]);
-        let (node, whole) = open(1, &bytes, &mut terms, &mut orders).inspect_err(|_| {
-            assert!(terms == [77; 256] && orders == [88; 256]);
-        })?;
-        assert_eq!(whole, bytes.len());
-        let last = usize::from(node.last);
-        assert!(terms[last..].iter().all(|&term| term == 77));
-        assert!(orders[last..].iter().all(|&order| order == 88));
-        Ok((node, terms[..last].to_vec(), orders[..last].to_vec()))
-    }
-
-    fn bad(lines: &[String], number: u64) {
-        assert_eq!(opened(lines), Err(Refusal::BadLine(number)));
-        let good = opened(&lines[..number as usize - 2]);
-        assert!(good.is_ok(), "not the first bad line");
-    }
-
-    fn open_bytes(me: u8, bytes: &[u8]) -> Result<usize, Refusal> {
-        let opened = open(me, bytes, &mut [0; 256], &mut [0; 256]);
-        opened.map(|(_, whole)| whole)
-    }
-
-    #[test]
-    fn the_journal_of_01s_reading() {
-        let bytes = b"01110107\n0110010000000101000000\n";
-        let (mut terms, mut orders) = ([5; 256], [6; 256]);
-        let (node, whole) = open(1, bytes, &mut terms, &mut orders).expect("a journal");
-        assert_eq!(whole, 32);
-        let stored = Node {
-            term: 1,
-            vote: 1,
-            ..fresh(1, 0x07)
-        };
-        assert_eq!(node, stored);
-        assert_eq!((terms, orders), ([5; 256], [6; 256]));
-    }
-
-    #[test]
-    fn cut_inside_its_head_and_after() {
-        let bytes = b"01110107\n0110010000000101000000\n";
-        for cut in 0..9 {
-            assert_eq!(open_bytes(1, &bytes[..cut]), Err(Refusal::NoHead));
-        }
-        for cut in 9..32 {
-            assert_eq!(open_bytes(1, &bytes[..cut]), Ok(9));
-        }
-        assert_eq!(open_bytes(1, bytes), Ok(32));
-        assert_eq!(open_bytes(1, &[&bytes[..], b"\r 01"].concat()), Ok(32));
-    }
-
-    #[test]
-    fn heads() {
-        assert_eq!(open_bytes(1, b"01110101\n"), Ok(9));
-        assert_eq!(open_bytes(7, b"0111077f\n"), Ok(9));
-        for (me, head) in [
-            (2, "01110107"),
-            (1, "01110100"),
-            (1, "01110187"),
-            (1, "01110106"),
-            (0, "01110007"),
-            (8, "01110880"),
-            (8, "011108ff"),
-            (255, "0111ffff"),
-            (1, "02110107"),
-            (1, "01100107"),
-            (1, "0111017F"),
-            (1, "011101070"),
-            (1, "0111010700"),
-            (1, "01110107\r"),
-            (1, "011101"),
-            (1, ""),
-        ] {
-            let bytes = text(&[head, "no line"]);
-            assert_eq!(open_bytes(me, &bytes), Err(Refusal::NoHead), "{head}");
-        }
-    }
-
-    #[test]
-    fn terms_are_at_least_1_and_do_not_fall() {
-        bad(&[line(0, 0, 0, &[], 0)], 2);
-        bad(&[line(3, 0, 0, &[], 0), line(2, 0, 0, &[], 0)], 3);
-        let (node, ..) = opened(&[line(3, 1, 0, &[], 0), line(u32::MAX, 0, 0, &[], 0)]).unwrap();
-        assert_eq!((node.term, node.vote), (u32::MAX, 0));
-    }
-
-    #[test]
-    fn a_vote_is_0_or_a_member_and_stays() {
-        for stranger in [4, 7, 8, 9, 255] {
-            bad(&[line(1, stranger, 0, &[], 0)], 2);
-        }
-        for other in [0, 1, 3] {
-            bad(&[line(1, 2, 0, &[], 0), line(1, other, 0, &[], 0)], 3);
-        }
-        let votes = [(1, 0), (1, 3), (1, 3), (2, 0), (2, 1), (3, 2)];
-        let lines = votes.map(|(term, vote)| line(term, vote, 0, &[], 0));
-        assert_eq!(opened(&lines).map(|(node, ..)| node.vote), Ok(2));
-    }
-
-    #[test]
-    fn kept_and_count() {
-        let one = line(1, 1, 0, &[1], 10);
-        bad(&[one.clone(), line(1, 1, 2, &[], 0)], 3);
-        bad(&[one.clone(), line(1, 1, 1, &[1; 5], 0)], 3);
-        bad(&[one.clone(), line(1, 1, 0xffff, &[1; 4], 0)], 3);
-        let mut lines: Vec<String> = (0..64).map(|n| line(1, 1, 4 * n, &[1; 4], 0)).collect();
-        bad(&[&lines[..], &[line(1, 1, 256, &[1], 0)]].concat(), 66);
-        bad(&[&lines[..], &[line(1, 1, 253, &[1; 4], 0)]].concat(), 66);
-        lines.push(line(1, 1, 252, &[1; 4], 7));
-        lines.push(line(1, 1, 256, &[], 0));
-        let (node, _, orders) = opened(&lines).expect("a full log");
-        assert_eq!((node.last, &orders[252..]), (256, &[7, 8, 9, 10][..]));
-    }
-
-    #[test]
-    fn entry_terms() {
-        bad(&[line(5, 0, 0, &[0], 0)], 2);
-        bad(&[line(5, 0, 0, &[2, 1], 0)], 2);
-        bad(&[line(5, 0, 0, &[5, 6], 0)], 2);
-        bad(&[line(5, 0, 0, &[1, 3], 0), line(5, 0, 2, &[2], 0)], 3);
-        let lines = [line(5, 0, 0, &[1, 3], 0), line(5, 0, 1, &[2, 5], 7)];
-        let (_, terms, orders) = opened(&lines).expect("a cut");
-        assert_eq!((terms, orders), (vec![1, 2, 5], vec![0, 7, 8]));
-    }
-
-    #[test]
-    fn lines_that_say_little_are_accepted() {
-        let first = line(2, 1, 0, &[1, 1, 2], 10);
-        for (second, log) in [
-            (line(2, 1, 3, &[], 0), vec![10, 11, 12]),
-            (line(2, 1, 1, &[1, 2], 11), vec![10, 11, 12]),
-            (line(2, 1, 1, &[1], 11), vec![10, 11]),
-            (line(2, 1, 1, &[], 0), vec![10]),
-            (line(2, 1, 0, &[], 0), vec![]),
-        ] {
-            let (_, _, orders) = opened(&[first.clone(), second]).expect("accepted");
-            assert_eq!(orders, log);
-        }
-    }
-
-    #[test]
-    fn what_is_no_line() {
-        let good = line(1, 1, 0, &[1], 0);
-        assert!(opened(&[good.clone()]).is_ok());
-        for other in [
-            good.replacen("10", "11", 1),
-            good.replacen("01", "02", 1),
-            good.replacen("01 10 01", "01 10 02", 1),
-            good.replace("00000001", "0000000A"),
-            good[..good.len() - 1].into(),
-            good[..good.len() - 2].into(),
-            good.clone() + "0",
-            good.clone() + "00",
-            good.clone() + "\r",
-            String::new(),
-            HEAD.into(),
-        ] {
-            bad(&[other, "and no line".into()], 2);
-        }
-    }
-
-    #[test]
-    fn what_is_not_stored_is_a_restarts() {
-        let candidate = Node {
-            role: CANDIDATE,
-            votes: 1,
-            term: 4,
-            vote: 1,
-            last: 9,
-            commit: 8,
-            next: [3; 7],
-            ..fresh(1, 0x07)
-        };
-        let (mut terms, mut orders) = ([4; 256], [0; 256]);
-        let bytes = text(&[&line(5, 0, 2, &[5], 42)]);
-        let next = Node {
-            term: 5,
-            vote: 0,
-            last: 3,
-            ..fresh(1, 0x07)
-        };
-        let after = replay(candidate, &bytes, &mut terms, &mut orders);
-        assert_eq!(after, Some(next));
-        assert_eq!((terms[..4].to_vec(), orders[2]), (vec![4, 4, 5, 4], 42));
-    }
-
-    /// A record that nobody checked: the line's rules count, and no other.
-    #[test]
-    fn a_line_over_any_record() {
-        let odd = Node {
-            term: 3,
-            last: 60_000,
-            commit: 300,
-            ..fresh(200, 0xff)
-        };
-        let over = |line: String| {
-            let bytes = text(&[&line.replacen("01 10 01", "01 10 c8", 1)]);
-            replay(odd, &bytes, &mut [9; 256], &mut [0; 256]).map(|node| node.last)
-        };
-        assert_eq!(over(line(9, 7, 256, &[], 0)), Some(256));
-        assert_eq!(over(line(9, 7, 252, &[9; 4], 0)), Some(256));
-        assert_eq!(over(line(9, 7, 257, &[], 0)), None);
-        assert_eq!(over(line(9, 8, 256, &[], 0)), None);
-        // The frame rule has the previous term included.
-        assert_eq!(over(line(8, 7, 256, &[], 0)), None);
-        assert_eq!(over(line(8, 7, 0, &[], 0)), Some(0));
     }
 }

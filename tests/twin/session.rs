@@ -3,19 +3,20 @@
 
 use std::io::{Read, Result, Write};
 
-use super::frames::{Digits, NOT_A_FRAME};
-use super::journal;
-use super::stream::{Line, Lines, Said};
-use super::{
-    line_length, start, Node, Orders, Terms, APPEND, BAD_RECORD, BOXES, ENTRY, LONGEST_LOG,
-    MOST_ENTRIES,
-};
+use crate::digits::Digits;
+use crate::frames;
+use crate::journal::{self, line_text};
+use crate::lines::{Line, Lines, Said};
+use crate::members::BOXES;
+use crate::message::MOST_ENTRIES;
+use crate::record::{Node, Orders, Terms, LONGEST_LOG};
+use crate::refusals::{BAD_RECORD, NOT_A_FRAME};
+use crate::start;
 
-const LONGEST_LINE: usize = line_length(MOST_ENTRIES as usize);
-const LONGEST_APPEND: usize = APPEND + ENTRY * MOST_ENTRIES as usize;
+const LONGEST_LINE: usize = line_text(MOST_ENTRIES);
 
 /// A journal line, and an append to each other box.
-pub const LONGEST_ANSWER: usize = LONGEST_LINE + (BOXES - 1) * LONGEST_APPEND;
+pub const LONGEST_ANSWER: usize = LONGEST_LINE + (BOXES - 1) * frames::LONGEST_TEXT;
 
 /// A box that was started, with its log.
 #[derive(Clone)]
@@ -123,6 +124,7 @@ fn first(line: Line, room: &mut [u8]) -> Option<(Running, usize)> {
 #[cfg(test)]
 mod checks {
     use super::*;
+    use support::text::lines;
 
     /// What is said to these bytes.
     fn said(input: &[u8]) -> String {
@@ -131,19 +133,13 @@ mod checks {
         String::from_utf8(output).expect("digits")
     }
 
-    /// The blanks between fields are for the reader of these checks only.
-    fn text(lines: &[&str]) -> String {
-        let lines = lines.iter().map(|line| line.replace(' ', "") + "\n");
-        lines.collect()
-    }
-
     /// Each line with what is said to it.
     fn check(steps: &[(&str, &[&str])]) {
         let mut input = String::new();
         let mut output = String::new();
         for (line, answer) in steps {
-            input += &text(&[line]);
-            output += &text(answer);
+            input += &lines(&[line]);
+            output += &lines(answer);
             assert_eq!(said(input.as_bytes()), output, "{line}");
         }
     }

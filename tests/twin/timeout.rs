@@ -1,0 +1,81 @@
+//! **Timeout.** Leader: nothing. Otherwise term + 1, candidate, vote and votes =
+//! itself, vote request to every other member. A majority already (one member): it
+//! leads at once.
+
+use crate::frames::VOTE_REQUEST_TEXT;
+use crate::journal::line_text;
+use crate::members::{bit, majority};
+use crate::record::{Node, Orders, Terms, CANDIDATE, LEADER};
+use crate::refusals::LAST_TERM;
+use crate::step::Answer;
+
+impl Node {
+    pub fn timeout(
+        self,
+        terms: &Terms,
+        orders: &Orders,
+        journal: &mut [u8],
+        room: &mut [u8],
+    ) -> Answer {
+        self.check(terms)?;
+        self.timed_out(terms, orders, journal, room)
+    }
+
+    /// The same for a record known to be good: a box that was started and has only
+    /// taken steps since need not look at its whole log at each of them.
+    pub(crate) fn timed_out(
+        mut self,
+        terms: &Terms,
+        orders: &Orders,
+        journal: &mut [u8],
+        room: &mut [u8],
+    ) -> Answer {
+        if self.role == LEADER {
+            return self.fit(0, 0, journal, room);
+        }
+        self.term = self.term.checked_add(1).ok_or(LAST_TERM)?;
+        self.role = CANDIDATE;
+        self.vote = self.me;
+        self.votes = bit(self.me);
+        // Who has a majority already is alone and has nobody to send to.
+        if majority(self.votes, self.members) {
+            self.win(terms);
+        }
+        let length = VOTE_REQUEST_TEXT * self.others().count_ones() as usize;
+        let step = self.fit(line_text(0), length, journal, room)?;
+        self.write_line(self.last, terms, orders, journal);
+        self.write_vote_requests(terms, room);
+        Ok(step)
+    }
+}
+
+#[cfg(test)]
+mod checks {
+    use super::*;
+    use crate::checked_box::CheckedBox;
+    use crate::refusals::NOT_FOR_THIS_BOX;
+    use support::text::lines;
+
+    #[test]
+    fn one_member() {
+        let mut alone = CheckedBox::new(3, 0x04);
+        assert_eq!(alone.timeout(), 0);
+        assert_eq!(alone.line, lines(&["01 10 03 00000001 03 0000 00"]));
+        assert_eq!((&*alone.messages, alone.node.role), ("", LEADER));
+        assert_eq!(alone.order(0), 0);
+        assert_eq!((&*alone.messages, alone.node.commit), ("", 1));
+        assert_eq!((alone.prompt(), &*alone.line), (0, ""));
+        let request = lines(&["01 01 01 03 00000009 0000 00000000"]);
+        assert_eq!(alone.receive(&request), NOT_FOR_THIS_BOX);
+    }
+
+    #[test]
+    fn the_last_term() {
+        let mut bench = CheckedBox::with_log(1, 0x07, u32::MAX - 1, &[1]);
+        assert_eq!(bench.timeout(), 0);
+        assert_eq!(bench.timeout(), LAST_TERM);
+        bench = bench.lead();
+        bench.node.votes = 0;
+        assert_eq!((bench.timeout(), &*bench.line), (0, ""));
+    }
+}
