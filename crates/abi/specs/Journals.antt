@@ -22,7 +22,7 @@ pub record OpenFlat : Type 0 where
 
 -- The bytes, or the number of the line that breaks a rule.
 abbrev pub sized-open : Opened → List ℕ → List ℕ
-sized-open o sizes = cond (eqb (o .refusal) 0) (set sizes 0 (o .bytes)) (cond (eqb (o .refusal) 10) (set sizes 1 (o .line)) sizes)
+sized-open o sizes = cond (eqb (o .refusal) 0) (set sizes 0 (o .bytes)) (cond (eqb (o .refusal) 10) (set sizes 1 (o .fault)) sizes)
 
 abbrev pub flat-open : Opening → List ℕ → List ℕ → OpenFlat
 flat-open o n sizes =

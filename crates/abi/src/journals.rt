@@ -19,7 +19,7 @@ fn put_opened(n: &mut [u64; 22], sizes: &mut [u64; 2], o: Opened) -> u8
         return 0;
     }
     if refusal == 10 {
-        sizes[1] = o.line as u64;
+        sizes[1] = o.fault as u64;
         return 10;
     }
     refusal

@@ -21,9 +21,11 @@ use Rattle.record.specs.Calls.{record-of, begun}
 use Rattle.record.specs.Calls as calls
 use Rattle.record.specs.WrittenLaws.{head-long}
 use Rattle.console.specs.declared.Begun.{Begun}
-use Rattle.console.specs.Session.{refusal-line, is-start}
-use Rattle.console.specs.TextLaws.{refusal-most}
-use Rattle.console.specs.Calls.{longest, starts, Starts, Beginning, none, beginning, Begins, Puts}
+use Rattle.console.specs.Session.{is-start}
+use Rattle.printing.specs.Text.{refusal-line}
+use Rattle.printing.specs.TextLaws.{refusal-most}
+use Rattle.console.specs.Calls.{longest, starts, Starts, Beginning, none, beginning, Begins}
+use Rattle.printing.specs.Putting.{Puts}
 
 -- a head's form has eight digits
 pub head-digits : (line : List ℕ) → head-shaped line ≡ true → run line ≡ 8

@@ -20,7 +20,7 @@ use Rattle.opening.specs.ReplayCode.{lines-end, lines-next}
 use Rattle.console.specs.declared.Answered.{Answered}
 use Rattle.console.specs.Session.{outcome-of, printed}
 use Rattle.console.specs.Calls.{longest, Saying, said, saying, Says, told, tell, reached, telling, Tells, Known}
-use Rattle.console.specs.TextLaws.{rest-whole, refusal-most}
+use Rattle.printing.specs.TextLaws.{rest-whole, refusal-most}
 use Rattle.console.specs.SayingLaws.{outcome-short}
 
 -- an answer never passes the room

@@ -1,5 +1,5 @@
 -- The calls: what an answer to a line leaves in everything lent. Assumes nothing.
-use Prim.Native.Nat.{ℕ, _+_, _-_, _*_, _≤_}
+use Prim.Native.Nat.{ℕ, _+_, _-_, _≤_}
 use mathlib.Core.Path.{_≡_}
 use mathlib.Core.Bool.{Bool, true, false, cond}
 use mathlib.Core.List.{List, [], _∷_, _++_}
@@ -20,7 +20,8 @@ use Rattle.record.specs.Calls as calls
 use Rattle.console.specs.declared.Begun.{Begun}
 use Rattle.console.specs.declared.Answered.{Answered}
 use Rattle.console.specs.declared.Taken.{Taken}
-use Rattle.console.specs.Session.{outcome-of, refusal-line, printed, is-start}
+use Rattle.console.specs.Session.{outcome-of, printed, is-start}
+use Rattle.printing.specs.Text.{refusal-line}
 
 -- The longest that a line can make a box print: a journal line of 119 bytes and messages of 786, 905 in all. With less room no line is answered.
 abbrev pub longest : ℕ
@@ -150,11 +151,6 @@ pub record Within (bytes room : List ℕ) (r : Taken) : Type 0 where
   pub taken : r .taken ≤ length bytes
   pub printed : r .bytes ≤ length room
 
--- A text is put at a place of a room: the place behind it, and the room that holds it.
-pub record Puts (room : List ℕ) (at : ℕ) (text : List ℕ) (end : ℕ) (room' : List ℕ) : Type 0 where
-  pub behind : end ≡ at + length text
-  pub holds : room' ≡ over room at text
-
 -- What the inside calls require: the log is lent whole, and it is known whether the record is good.
 pub record Known (known : Bool) (b : Record) (terms orders : List ℕ) : Type 0 where
   pub terms-long : length terms ≡ log-limit
@@ -165,16 +161,3 @@ pub record Known (known : Bool) (b : Record) (terms orders : List ℕ) : Type 0 
 pub record Roomy (room messages : List ℕ) : Type 0 where
   pub answers : longest ≤ length room
   pub aside : longest-messages ≤ length messages
-
--- What a log's text requires: that many entries are lent, and from a place on the room has 25 bytes for each.
-pub record Listable (terms orders : List ℕ) (last : ℕ) (room : List ℕ) (at : ℕ) : Type 0 where
-  pub terms-hold : last ≤ length terms
-  pub orders-hold : last ≤ length orders
-  pub wide : at + 25 * last ≤ length room
-
--- What a record's text requires: the log is lent whole, the record's part of it fits, and the room holds any record: four numbers and 256 entries.
-pub record Showable (b : Record) (terms orders room : List ℕ) : Type 0 where
-  pub terms-long : length terms ≡ log-limit
-  pub orders-long : length orders ≡ log-limit
-  pub fits : b .last ≤ log-limit
-  pub wide : 6484 ≤ length room

@@ -1,13 +1,10 @@
 -- A session: what a box on lines of text prints; the calls; then what the code's proofs use.
 pub mod Session
-pub mod Looking
 pub mod Calls
 pub mod LineLaws
-pub mod TextLaws
 pub mod GoodLaws
 pub mod SayingLaws
 pub mod BeginLaws
 pub mod BlockLaws
-pub mod LookingLaws
 pub mod SessionLaws
 pub mod RunLaws

@@ -22,9 +22,11 @@ use Rattle.record.specs.declared.Record.{Record}
 use Rattle.record.specs.declared.Step.{Step}
 use Rattle.record.specs.SizeLaws.{over-next}
 use Rattle.record.specs.Calls.{state-of, record-of, Called, untouched, fit, written, run, Runs, Ready}
-use Rattle.console.specs.Session.{event-of, outcome-of, refusal-line, printed}
-use Rattle.console.specs.Calls.{longest, said, saying, Says, Puts, Known, Roomy}
-use Rattle.console.specs.TextLaws.{taken-back}
+use Rattle.console.specs.Session.{event-of, outcome-of, printed}
+use Rattle.printing.specs.Text.{refusal-line}
+use Rattle.console.specs.Calls.{longest, said, saying, Says, Known, Roomy}
+use Rattle.printing.specs.Putting.{Puts}
+use Rattle.printing.specs.TextLaws.{taken-back}
 use Rattle.console.specs.LineLaws.{outcome-step, not-good}
 use Rattle.console.specs.GoodLaws.{known-stays}
 

@@ -1,8 +1,8 @@
 -- 01, 'What the box decides', from 'a small program' on: from the bytes that it reads to the bytes that it prints. Assumes nothing.
-use Prim.Native.Nat.{ℕ, zero, suc, _+_, _/_, _%_}
+use Prim.Native.Nat.{ℕ}
 use mathlib.Core.Bool.{Bool, cond, _&&_}
 use mathlib.Core.List.{List, [], _∷_, _++_}
-use lib.Dec.{eqb, ltb}
+use lib.Dec.{eqb}
 use lib.ListN.{length, getD, drop}
 use Rattle.digits.specs.Digits.{field}
 use Rattle.frames.specs.Message.{line-feed}
@@ -14,10 +14,11 @@ use Rattle.raft.specs.Outcome.{Outcome, done, refuse}
 use Rattle.raft.specs.Event.{Event, times-out, takes-order, is-prompted, receives, step}
 use Rattle.journal.specs.Lines.{lines, box-in, mask-in}
 use Rattle.journal.specs.Opening.{is-head}
+use Rattle.printing.specs.Text.{refusal-line}
 
 -- ---- what a line asks for
 
--- The letters t, p, o and n.
+-- The letters t, p and o.
 abbrev pub letter-t : ℕ
 letter-t = 116
 
@@ -26,9 +27,6 @@ letter-p = 112
 
 abbrev pub letter-o : ℕ
 letter-o = 111
-
-abbrev pub letter-n : ℕ
-letter-n = 110
 
 -- "`t` (timeout), `p` (prompt)": the letter and its line feed.
 unfoldable pub is-letter : ℕ → List ℕ → Bool
@@ -52,18 +50,6 @@ unfoldable pub outcome-of : List ℕ → State → Outcome
 outcome-of line s = cond (good s) (step (event-of line) s) (refuse 12)
 
 -- ---- what it prints
-
--- A number in decimal, its last so many places. 20 places hold every number of 64 bits.
-unfoldable pub decimal-in : ℕ → ℕ → List ℕ
-decimal-in zero n = []
-decimal-in (suc places) n = cond (ltb n 10) ((48 + n) ∷ []) (decimal-in places (n / 10) ++ ((48 + n % 10) ∷ []))
-
-unfoldable pub decimal : ℕ → List ℕ
-decimal n = decimal-in 20 n
-
--- "`n` and the refusal's decimal number"
-unfoldable pub refusal-line : ℕ → List ℕ
-refusal-line number = letter-n ∷ (decimal number ++ (line-feed ∷ []))
 
 -- "it prints the step's journal line if any, then its messages, or `n` and the refusal's decimal number"
 unfoldable pub printed : State → Outcome → List ℕ

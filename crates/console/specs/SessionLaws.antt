@@ -27,10 +27,11 @@ use Rattle.journal.specs.LinesLaws.{Whole, strung, strung-append, lines-first, 
 use Rattle.journal.specs.LongestLaws.{longest-message, text-most}
 use Rattle.record.specs.declared.Record.{Record}
 use Rattle.record.specs.Calls.{state-of}
-use Rattle.console.specs.Session.{letter-t, letter-p, outcome-of, printed, next-of, refusal-line, answers, is-start, talk, session}
+use Rattle.console.specs.Session.{letter-t, letter-p, outcome-of, printed, next-of, answers, is-start, talk, session}
+use Rattle.printing.specs.Text.{refusal-line}
 use Rattle.console.specs.Calls.{longest, Beginning, beginning, Saying, said, saying, Telling, told, tell, reached, telling, Known}
 use Rattle.console.specs.LineLaws.{letter-long, order-long, asks-receive, outcome-step, not-good}
-use Rattle.console.specs.TextLaws.{taken-back}
+use Rattle.printing.specs.TextLaws.{taken-back}
 use Rattle.console.specs.BeginLaws.{unshaped, shaped}
 use Rattle.console.specs.GoodLaws.{next-lent, known-stays}
 

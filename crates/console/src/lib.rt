@@ -1,14 +1,10 @@
 // A box on lines of text: 01's small program but for its reading and writing.
 mod blocks;
 mod lines;
-mod looking;
-mod printing;
 
 pub use blocks::answer_lines;
 pub use lines::answer;
 pub use lines::begin;
-pub use looking::asked;
-pub use looking::show;
 use record::Record;
 
 // The first line's answer: false and nothing done where the room is shorter than the longest answer; whether a box was started; how many bytes are to be printed.

@@ -1,8 +1,8 @@
 // A line, and what the box answers.
 use crate::Answered;
 use crate::Begun;
-use crate::printing::put;
-use crate::printing::put_refusal;
+use printing::put;
+use printing::put_refusal;
 use record::Record;
 use record::Started;
 use record::Step;

@@ -53,6 +53,7 @@ fn one_entry(term: u32, order: u64) -> [Entry; Record::ENTRIES]
     [a, e, e, e]
 }
 
+// An order at a record that is known to be good.
 pub fn run_order(
     n: Record,
     o: u64,

@@ -27,6 +27,7 @@ fn decide(n: Record) -> Decision
     refuse(n, 3)
 }
 
+// A prompt at a record that is known to be good.
 pub fn run_prompt(
     n: Record,
     terms: &[u32],

@@ -36,6 +36,7 @@ fn decide(n: Record, terms: &[u32], orders: &[u64]) -> Decision
     step(candidate, Send::Requests)
 }
 
+// A timeout at a record that is known to be good.
 pub fn run_timeout(
     n: Record,
     terms: &[u32],

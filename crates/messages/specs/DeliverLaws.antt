@@ -69,12 +69,12 @@ sender-box : (m : Message) → obeys m ≡ true → is-box (sender m) ≡ true
 unfolding sender
 sender-box (vote-request from to term index prior) h =
     four true (is-box from) _ _ (four (is-start from to term) _ _ _ h .0) .1
-sender-box (vote-answer from to term said) h = four true (is-box from) _ _ (and-left (is-start from to term) _ h) .1
+sender-box (vote-answer from to term reply) h = four true (is-box from) _ _ (and-left (is-start from to term) _ h) .1
 sender-box (append from to term index prior commit es) h =
     four true (is-box from) _ _
     (four (is-start from to term) (is-index index) (is-pair index prior) (is-index commit)
     (four (is-start from to term && is-index index && is-pair index prior && is-index commit) _ _ _ h .0) .0) .1
-sender-box (append-answer from to term said index) h = four true (is-box from) _ _ (four (is-start from to term) _ _ _ h .0) .1
+sender-box (append-answer from to term reply index) h = four true (is-box from) _ _ (four (is-start from to term) _ _ _ h .0) .1
 
 module _ (f : Fields) (h : one-frame f ≡ true) where
   pub from-box : IsBox (f .from)

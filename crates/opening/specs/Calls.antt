@@ -86,10 +86,10 @@ none = record-of (fresh 0 0)
 -- What the replay of all lines leaves: the answer, and a log made aside that is the record's; of a log that is not handed over nothing is said.
 unfoldable pub Found : answers.Opened → List ℕ → List ℕ → Opened → Type 0
 Found r terms orders (opened s bytes) =
-    (r ≡ record { refusal = 0; state = record-of s; bytes = bytes; line = 0 }) × (entries-of terms orders 0 (length (s .log)) ≡ s .log)
+    (r ≡ record { refusal = 0; state = record-of s; bytes = bytes; fault = 0 }) × (entries-of terms orders 0 (length (s .log)) ≡ s .log)
     × (length (s .log) ≤ log-limit)
 Found r terms orders headless = ⊥
-Found r terms orders (broken line) = r ≡ record { refusal = 10; state = none; bytes = 0; line = line }
+Found r terms orders (broken line) = r ≡ record { refusal = 10; state = none; bytes = 0; fault = line }
 
 -- The lines from a place on, from a struct and a lent log on: what that requires, and what it leaves.
 pub record Begins (start : Record) (bytes : List ℕ) (first : ℕ) (terms orders : List ℕ) : Type 0 where
@@ -105,14 +105,14 @@ Finds start bytes first terms orders answer terms' orders' =
 unfoldable pub opening-by : Opened → List ℕ → List ℕ → Opening
 opening-by (opened s bytes) terms orders =
     record {
-      answer = record { refusal = 0; state = record-of s; bytes = bytes; line = 0 };
+      answer = record { refusal = 0; state = record-of s; bytes = bytes; fault = 0 };
       terms = over terms 0 (terms-of (s .log));
       orders = over orders 0 (orders-of (s .log));
     }
 opening-by headless terms orders =
-    record { answer = record { refusal = 11; state = none; bytes = 0; line = 0 }; terms = terms; orders = orders }
+    record { answer = record { refusal = 11; state = none; bytes = 0; fault = 0 }; terms = terms; orders = orders }
 opening-by (broken line) terms orders =
-    record { answer = record { refusal = 10; state = none; bytes = 0; line = line }; terms = terms; orders = orders }
+    record { answer = record { refusal = 10; state = none; bytes = 0; fault = line }; terms = terms; orders = orders }
 
 unfoldable pub opens : ℕ → List ℕ → List ℕ → List ℕ → Opening
 opens box bytes terms orders = opening-by (opening box bytes) terms orders

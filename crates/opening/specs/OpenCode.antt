@@ -108,7 +108,7 @@ module _ (me : ℕ) (bytes : List ℕ) {end mask : ℕ} (e : end ≡ 0 + first-l
 
 module _ (me : ℕ) (bytes terms orders : List ℕ) where
   -- no head
-  pub opens-headless : {r : answers.Opened} → opening me bytes ≡ headless → r ≡ record { refusal = 11; state = none; bytes = 0; line = 0 }
+  pub opens-headless : {r : answers.Opened} → opening me bytes ≡ headless → r ≡ record { refusal = 11; state = none; bytes = 0; fault = 0 }
       → Opens me bytes terms orders r terms orders
   unfolding opens opening-by
   opens-headless e f = rw (e, f)

@@ -250,7 +250,7 @@ reached-first b =
 module _ {bytes : List ℕ} {first : ℕ} {start : State} {state : Record} {terms orders : List ℕ} {at number : ℕ}
     (s : Reached bytes first start state terms orders at number) {end : ℕ} (e : end ≡ at + first-line (drop at bytes)) where
   -- no line is left
-  pub reached-end : end ≡ at → Found (record { refusal = 0; state = state; bytes = at; line = 0 }) terms orders (all bytes first start)
+  pub reached-end : end ≡ at → Found (record { refusal = 0; state = state; bytes = at; fault = 0 }) terms orders (all bytes first start)
   unfolding Found replay
   reached-end z =
       rw (s .same, lines-end bytes at (s .inside) none-left .0)
@@ -274,7 +274,7 @@ module _ {bytes : List ℕ} {first : ℕ} {start : State} {state : Record} {term
     gone = omega (arith, e)
 
     -- a line that breaks a rule
-    pub reached-broken : (one .refusal ≡ 0 → ⊥) → {r : answers.Opened} → r ≡ record { refusal = 10; state = none; bytes = 0; line = number }
+    pub reached-broken : (one .refusal ≡ 0 → ⊥) → {r : answers.Opened} → r ≡ record { refusal = 10; state = none; bytes = 0; fault = number }
         → (ts os : List ℕ) → Found r ts os (all bytes first start)
     unfolding Found replay go-on
     reached-broken q f ts os = rw (s .same, lines-next bytes at (s .inside) some .0, ← gone, line-breaks _ _ _ _ a q) f

@@ -34,7 +34,7 @@ pub struct Opened {
     pub refusal: u8,
     pub state: Record,
     pub bytes: usize,
-    pub line: usize,
+    pub fault: usize,
 }
 
 // What was made of a block of lines: 0, or 10 where the line behind those replayed breaks a rule; the record, and how many bytes and

@@ -19,6 +19,7 @@ ghost use Rattle.digits.specs.Room.{over};
 ghost use Rattle.frames.specs.Limits.{log-limit};
 ghost use Rattle.opening.specs.Calls.{LentLog, Advances, Replays, none, Begins, Finds, Opens};
 
+// 10: the record stays as it was.
 fn breaks(n: Record) -> Replayed
     ensures { λ r. ⌜ r ≡ record { refusal = 10; state = n } ⌝ }
 {
@@ -74,15 +75,16 @@ pub fn replay(
     replay_line(n, line, terms, orders)
 }
 
+// "opening returns no record": 10 with the line's number, or 11.
 fn refused(number: u8, line: usize) -> Opened
-    ensures { λ r. ⌜ r ≡ record { refusal = number; state = none; bytes = 0; line = line } ⌝ }
+    ensures { λ r. ⌜ r ≡ record { refusal = number; state = none; bytes = 0; fault = line } ⌝ }
 {
     let state = fresh(0, 0);
     Opened {
         refusal: number,
         state,
         bytes: 0,
-        line,
+        fault: line,
     }
 }
 
@@ -107,7 +109,7 @@ fn replay_all(
                 refusal: 0,
                 state,
                 bytes: at,
-                line: 0,
+                fault: 0,
             };
         }
         let one = replay_line(state, &bytes[at..end], terms, orders);

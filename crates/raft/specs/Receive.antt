@@ -17,37 +17,37 @@ use Rattle.raft.specs.AppendAnswer.{on-append-answer}
 
 unfoldable pub sender : Message → ℕ
 sender (vote-request from to term index prior) = from
-sender (vote-answer from to term said) = from
+sender (vote-answer from to term reply) = from
 sender (append from to term index prior commit es) = from
-sender (append-answer from to term said index) = from
+sender (append-answer from to term reply index) = from
 
 unfoldable pub receiver : Message → ℕ
 receiver (vote-request from to term index prior) = to
-receiver (vote-answer from to term said) = to
+receiver (vote-answer from to term reply) = to
 receiver (append from to term index prior commit es) = to
-receiver (append-answer from to term said index) = to
+receiver (append-answer from to term reply index) = to
 
 unfoldable pub term-of : Message → ℕ
 term-of (vote-request from to term index prior) = term
-term-of (vote-answer from to term said) = term
+term-of (vote-answer from to term reply) = term
 term-of (append from to term index prior commit es) = term
-term-of (append-answer from to term said index) = term
+term-of (append-answer from to term reply index) = term
 
 -- ---- "Any message"
 
 -- "A lower term: a request gets a no with the box's own term; an answer does nothing."
 unfoldable pub stale : Message → State → Outcome
 stale (vote-request from to term index prior) s = done s (vote-answer-to s from false ∷ [])
-stale (vote-answer from to term said) s = done s []
+stale (vote-answer from to term reply) s = done s []
 stale (append from to term index prior commit es) s = say-no s from
-stale (append-answer from to term said index) s = done s []
+stale (append-answer from to term reply index) s = done s []
 
 -- Its kind, at a box that is in the message's term.
 unfoldable pub current : Message → State → Outcome
 current (vote-request from to term index prior) s = on-vote-request s from index prior
-current (vote-answer from to term said) s = on-vote-answer s from said
+current (vote-answer from to term reply) s = on-vote-answer s from reply
 current (append from to term index prior commit es) s = on-append s from index prior commit es
-current (append-answer from to term said index) s = on-append-answer s from said index
+current (append-answer from to term reply index) s = on-append-answer s from reply index
 
 -- "with a higher term: take that term, .., then go on as below."
 unfoldable pub deliver : Message → State → Outcome

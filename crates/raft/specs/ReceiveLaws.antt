@@ -277,12 +277,12 @@ start-facts s from to term o h =
 pub sent-by : (s : State) (m : Message) → Arrives s m → Sender s (sender m) (term-of m)
 unfolding sender term-of
 sent-by s (vote-request from to term index prior) a = start-facts s from to term (a .other) (four (is-start from to term) _ _ _ (a .obeyed) .0)
-sent-by s (vote-answer from to term said) a = start-facts s from to term (a .other) (and-left (is-start from to term) _ (a .obeyed))
+sent-by s (vote-answer from to term reply) a = start-facts s from to term (a .other) (and-left (is-start from to term) _ (a .obeyed))
 sent-by s (append from to term index prior commit es) a =
     start-facts s from to term (a .other)
     (four (is-start from to term) (is-index index) (is-pair index prior) (is-index commit)
     (four (is-start from to term && is-index index && is-pair index prior && is-index commit) _ _ _ (a .obeyed) .0) .0)
-sent-by s (append-answer from to term said index) a = start-facts s from to term (a .other) (four (is-start from to term) _ _ _ (a .obeyed) .0)
+sent-by s (append-answer from to term reply index) a = start-facts s from to term (a .other) (four (is-start from to term) _ _ _ (a .obeyed) .0)
 
 -- What an append offers: at most four entries, in order, and room for them.
 pub record Offers (term index prior : ℕ) (es : List Entry) : Type 0 where

@@ -89,9 +89,9 @@ receive-obeys bytes s h = receive-ends (λ t ms. Obey ms) s (deliver-obeys s (go
 term-sized : (m : Message) → sized (table m) → term-of m < 4294967296
 unfolding table sized term-of
 term-sized (vote-request from to term index prior) z = z .1 .1 .1 .1 .0
-term-sized (vote-answer from to term said) z = z .1 .1 .1 .1 .0
+term-sized (vote-answer from to term reply) z = z .1 .1 .1 .1 .0
 term-sized (append from to term index prior commit es) z = z .1 .1 .1 .1 .0
-term-sized (append-answer from to term said index) z = z .1 .1 .1 .1 .0
+term-sized (append-answer from to term reply index) z = z .1 .1 .1 .1 .0
 
 -- and so the orders of entries that fit their fields are 8
 pub orders-sized : (es : List Entry) → sized (entry-fields es) → All eight-bytes es

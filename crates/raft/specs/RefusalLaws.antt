@@ -86,16 +86,16 @@ hear-numbered s from reply index = by-test (eqb reply 1 && ltb (last-index s) in
 stale-numbered : (m : Message) (s : State) → Numbered (stale m s)
 unfolding stale
 stale-numbered (vote-request from to term index prior) s = ends _ _
-stale-numbered (vote-answer from to term said) s = ends _ _
+stale-numbered (vote-answer from to term reply) s = ends _ _
 stale-numbered (append from to term index prior commit es) s = ends _ _
-stale-numbered (append-answer from to term said index) s = ends _ _
+stale-numbered (append-answer from to term reply index) s = ends _ _
 
 current-numbered : (m : Message) (s : State) → Numbered (current m s)
 unfolding current on-vote-request on-vote-answer on-append-answer
 current-numbered (vote-request from to term index prior) s = ends _ _
-current-numbered (vote-answer from to term said) s = by-test (counts s said) _ _ (counted-numbered _) (ends _ _)
+current-numbered (vote-answer from to term reply) s = by-test (counts s reply) _ _ (counted-numbered _) (ends _ _)
 current-numbered (append from to term index prior commit es) s = append-numbered s from index prior commit es
-current-numbered (append-answer from to term said index) s = by-test (eqb (s .role) leader) _ _ (hear-numbered s from said index) (ends _ _)
+current-numbered (append-answer from to term reply index) s = by-test (eqb (s .role) leader) _ _ (hear-numbered s from reply index) (ends _ _)
 
 deliver-numbered : (m : Message) (s : State) → Numbered (deliver m s)
 unfolding deliver

@@ -82,7 +82,7 @@ fn show(
     requires { ⌜ n .last ≤ log-limit ⌝ }
     requires { ⌜ 6484 ≤ length (now output) ⌝ }
 {
-    let text = console::show(
+    let text = printing::show(
         n,
         std::num::wrapping_add_u64(bytes, 9),
         terms,
@@ -120,7 +120,7 @@ fn run(input: &mut [u8], output: &mut [u8])
     requires { ⌜ 6484 ≤ length (now output) ⌝ }
 {
     let first = reader::whole_line(input, 0);
-    let me = console::asked(&input[..first.end]);
+    let me = printing::asked(&input[..first.end]);
     if me == 0 {
         no_head();
         return;

@@ -1,6 +1,6 @@
 -- The tests are the definition's own.
 use borrow.Author.Needs.{needs}
-use Rattle.console.specs.TextLaws.{rest-whole}
+use Rattle.printing.specs.TextLaws.{rest-whole}
 use mathlib.Core.Path.{sym, _∙_}
 use Rattle.console.specs.LineLaws.{order-long, order-other, order-by}
 use Rattle.console.proofs.lines.is_order.Statement.{statement}

@@ -1,6 +1,6 @@
 -- Sixteen digits stand behind the letter (`order-facts`).
 use borrow.Author.Needs.{needs}
-use Rattle.console.specs.TextLaws.{rest-whole}
+use Rattle.printing.specs.TextLaws.{rest-whole}
 use Rattle.console.specs.Session.{order-in}
 use native.Mathlib.Omega.{arith}
 use Rattle.console.specs.LineLaws.{order-facts}

@@ -1,9 +1,9 @@
 -- Four numbers, one behind the other (`first-put`).
 use borrow.Author.Needs.{needs}
 use native.Mathlib.Omega.{arith}
-use Rattle.console.specs.LookingLaws.{first-put}
-use Rattle.console.proofs.looking.put_first.Statement.{statement}
-use Rattle.console.proofs.looking.put_first.Tie as tie
+use Rattle.printing.specs.LookingLaws.{first-put}
+use Rattle.printing.proofs.looking.put_first.Statement.{statement}
+use Rattle.printing.proofs.looking.put_first.Tie as tie
 
 put-number-requires : tie.Need-put-number-requires
 put-number-requires c κs = search needs

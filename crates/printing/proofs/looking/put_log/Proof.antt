@@ -8,10 +8,10 @@ use lib.ListN.{length, length-set}
 use Rattle.digits.specs.Room.{over}
 use Rattle.digits.specs.RoomLaws.{over-nothing}
 use Rattle.raft.specs.Lent.{entries-of}
-use Rattle.console.specs.Looking.{log-shown}
-use Rattle.console.specs.LookingLaws.{logged-next}
-use Rattle.console.proofs.looking.put_log.Statement.{statement}
-use Rattle.console.proofs.looking.put_log.Tie as tie
+use Rattle.printing.specs.Looking.{log-shown}
+use Rattle.printing.specs.LookingLaws.{logged-next}
+use Rattle.printing.proofs.looking.put_log.Statement.{statement}
+use Rattle.printing.proofs.looking.put_log.Tie as tie
 
 record Shown (room₀ : List ℕ) (at : ℕ) (terms orders : List ℕ) (last : ℕ) (room : List ℕ) (i : ℕ) : Type 0 where
   within : i ≤ last

@@ -7,7 +7,7 @@ use lib.ListN.{length, getD}
 use Rattle.frames.specs.declared.Entry.{Entry}
 use Rattle.frames.specs.Message.{entry-fields, spell, line-feed}
 use Rattle.raft.specs.Record.{State, last-index}
-use Rattle.console.specs.Session.{decimal}
+use Rattle.printing.specs.Text.{decimal}
 
 -- "a first line with one digit, the box asked for": 1 to 7; 0, which is no box, where it is another line.
 unfoldable pub asks : List ℕ → Bool

@@ -1,5 +1,5 @@
 // The program `replay`: the box asked for, and a record as text.
-use crate::printing::put_decimal;
+use crate::putting::put_decimal;
 use record::Record;
 ghost use mathlib.Core.Path.{_≡_};
 ghost use Prim.Native.Nat.{_+_, _≤_};
@@ -7,8 +7,8 @@ ghost use lib.ListN.{length};
 ghost use Rattle.digits.specs.Room.{over};
 ghost use Rattle.raft.specs.Lent.{entries-of};
 ghost use Rattle.record.specs.Calls.{state-of};
-ghost use Rattle.console.specs.Looking.{asks, asked-box, numbered, first-shown, log-shown, shown};
-ghost use Rattle.console.specs.Calls.{Puts, Listable, Showable};
+ghost use Rattle.printing.specs.Looking.{asks, asked-box, numbered, first-shown, log-shown, shown};
+ghost use Rattle.printing.specs.Putting.{Puts, Listable, Showable};
 
 // "a first line with one digit, the box asked for"
 fn is_asking(s: &[u8]) -> bool

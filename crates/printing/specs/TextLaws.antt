@@ -13,8 +13,8 @@ use Rattle.digits.specs.Room.{over}
 use Rattle.digits.specs.RoomLaws.{length-over, over-nothing, over-over}
 use Rattle.frames.specs.Message.{line-feed}
 use Rattle.frames.specs.WritingLaws.{stored-one}
-use Rattle.console.specs.Session.{letter-n, decimal-in, decimal, refusal-line}
-use Rattle.console.specs.Calls.{Puts}
+use Rattle.printing.specs.Text.{letter-n, decimal-in, decimal, refusal-line}
+use Rattle.printing.specs.Putting.{Puts}
 
 -- what is lent from a place on is all that is left
 pub rest-whole : (s : List ℕ) (at : ℕ) → take (length s - at) (drop at s) ≡ drop at s

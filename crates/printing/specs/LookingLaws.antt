@@ -19,10 +19,10 @@ use Rattle.raft.specs.Lent.{entries-of}
 use Rattle.raft.specs.LentLaws.{length-entries-of, entries-more}
 use Rattle.record.specs.declared.Record.{Record}
 use Rattle.record.specs.Calls.{state-of}
-use Rattle.console.specs.Session.{decimal-in, decimal}
-use Rattle.console.specs.Looking.{asks, asked-box, space, numbered, first-shown, entry-shown, log-shown, shown}
-use Rattle.console.specs.Calls.{Puts}
-use Rattle.console.specs.TextLaws.{put-behind, put-both, decimal-long}
+use Rattle.printing.specs.Text.{decimal-in, decimal}
+use Rattle.printing.specs.Looking.{asks, asked-box, space, numbered, first-shown, entry-shown, log-shown, shown}
+use Rattle.printing.specs.Putting.{Puts}
+use Rattle.printing.specs.TextLaws.{put-behind, put-both, decimal-long}
 
 -- ---- the box asked for
 

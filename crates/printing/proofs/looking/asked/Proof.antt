@@ -2,9 +2,9 @@
 use borrow.Author.Needs.{needs}
 use native.Mathlib.Omega.{arith}
 use mathlib.Core.Path.{sym, _∙_}
-use Rattle.console.specs.LookingLaws.{asks-facts, asked-digit, asked-none}
-use Rattle.console.proofs.looking.asked.Statement.{statement}
-use Rattle.console.proofs.looking.asked.Tie as tie
+use Rattle.printing.specs.LookingLaws.{asks-facts, asked-digit, asked-none}
+use Rattle.printing.proofs.looking.asked.Statement.{statement}
+use Rattle.printing.proofs.looking.asked.Tie as tie
 
 is-asking-requires : tie.Need-is-asking-requires
 is-asking-requires c κs = search needs

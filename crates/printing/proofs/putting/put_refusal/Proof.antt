@@ -2,9 +2,9 @@
 use borrow.Author.Needs.{needs}
 use native.Mathlib.Omega.{arith}
 use lib.ListN.{length-set}
-use Rattle.console.specs.TextLaws.{refusal-put}
-use Rattle.console.proofs.printing.put_refusal.Statement.{statement}
-use Rattle.console.proofs.printing.put_refusal.Tie as tie
+use Rattle.printing.specs.TextLaws.{refusal-put}
+use Rattle.printing.proofs.putting.put_refusal.Statement.{statement}
+use Rattle.printing.proofs.putting.put_refusal.Tie as tie
 
 slice-write-room : tie.Need-slice-write-room
 slice-write-room c = search needs

@@ -7,9 +7,9 @@ use mathlib.Core.List.{List}
 use lib.ListN.{length, take, length-set}
 use Rattle.digits.specs.Room.{over}
 use Rattle.digits.specs.RoomLaws.{over-nothing}
-use Rattle.console.specs.TextLaws.{put-next, put-all}
-use Rattle.console.proofs.printing.put.Statement.{statement}
-use Rattle.console.proofs.printing.put.Tie as tie
+use Rattle.printing.specs.TextLaws.{put-next, put-all}
+use Rattle.printing.proofs.putting.put.Statement.{statement}
+use Rattle.printing.proofs.putting.put.Tie as tie
 
 record Written (room₀ : List ℕ) (at : ℕ) (text room : List ℕ) (i : ℕ) : Type 0 where
   within : i ≤ length text

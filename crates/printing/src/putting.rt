@@ -3,8 +3,8 @@ ghost use mathlib.Core.Path.{_≡_};
 ghost use Prim.Native.Nat.{_+_, _≤_};
 ghost use lib.ListN.{length};
 ghost use Rattle.digits.specs.Room.{over};
-ghost use Rattle.console.specs.Session.{decimal-in, refusal-line};
-ghost use Rattle.console.specs.Calls.{Puts};
+ghost use Rattle.printing.specs.Text.{decimal-in, refusal-line};
+ghost use Rattle.printing.specs.Putting.{Puts};
 
 // Puts a text at a place of the room.
 pub fn put(room: &mut [u8], at: usize, text: &[u8])

@@ -2,15 +2,15 @@
 use borrow.Author.Needs.{needs}
 use native.Mathlib.Omega.{arith}
 use lib.ListN.{length}
-use Rattle.console.specs.TextLaws.{decimal-none, decimal-one, decimal-more}
+use Rattle.printing.specs.TextLaws.{decimal-none, decimal-one, decimal-more}
 use Prim.Native.Nat.{ℕ, _<_}
 use borrow.Fn.Kinds.{In}
 use borrow.Fn.PlainCycle.{Measures, is, falls, and}
-use Rattle.console.proofs.printing.put_decimal.Reads as put-decimal
-use Rattle.console.proofs.printing.put_decimal.Kinds as put-decimal-kinds
-use Rattle.console.proofs.printing.+put_decimal.Lts-put_decimal as put-decimal-lts
-use Rattle.console.proofs.printing.+put_decimal.{statement}
-use Rattle.console.proofs.printing.+put_decimal.Tie.{close}
+use Rattle.printing.proofs.putting.put_decimal.Reads as put-decimal
+use Rattle.printing.proofs.putting.put_decimal.Kinds as put-decimal-kinds
+use Rattle.printing.proofs.putting.+put_decimal.Lts-put_decimal as put-decimal-lts
+use Rattle.printing.proofs.putting.+put_decimal.{statement}
+use Rattle.printing.proofs.putting.+put_decimal.Tie.{close}
 
 abbrev μ-put-decimal : Measures 1 put-decimal-kinds.ps ℕ
 μ-put-decimal κs a = a .1 .1 .1 .0

@@ -1,9 +1,9 @@
 -- The digits, and the character behind them.
 use borrow.Author.Needs.{needs}
 use native.Mathlib.Omega.{arith}
-use Rattle.console.specs.LookingLaws.{numbered-put}
-use Rattle.console.proofs.looking.put_number.Statement.{statement}
-use Rattle.console.proofs.looking.put_number.Tie as tie
+use Rattle.printing.specs.LookingLaws.{numbered-put}
+use Rattle.printing.proofs.looking.put_number.Statement.{statement}
+use Rattle.printing.proofs.looking.put_number.Tie as tie
 
 put-decimal-requires : tie.Need-put-decimal-requires
 put-decimal-requires c κs = search needs

@@ -1,9 +1,9 @@
 -- The first line, and the log behind it (`shown-put`).
 use borrow.Author.Needs.{needs}
 use native.Mathlib.Omega.{arith}
-use Rattle.console.specs.LookingLaws.{shown-put}
-use Rattle.console.proofs.looking.show.Statement.{statement}
-use Rattle.console.proofs.looking.show.Tie as tie
+use Rattle.printing.specs.LookingLaws.{shown-put}
+use Rattle.printing.proofs.looking.show.Statement.{statement}
+use Rattle.printing.proofs.looking.show.Tie as tie
 
 put-first-requires : tie.Need-put-first-requires
 put-first-requires c κs =

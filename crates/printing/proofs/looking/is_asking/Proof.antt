@@ -1,9 +1,9 @@
 -- The tests are the definition's own.
 use borrow.Author.Needs.{needs}
 use mathlib.Core.Path.{sym}
-use Rattle.console.specs.LookingLaws.{asks-long, asks-by}
-use Rattle.console.proofs.looking.is_asking.Statement.{statement}
-use Rattle.console.proofs.looking.is_asking.Tie as tie
+use Rattle.printing.specs.LookingLaws.{asks-long, asks-by}
+use Rattle.printing.proofs.looking.is_asking.Statement.{statement}
+use Rattle.printing.proofs.looking.is_asking.Tie as tie
 
 returns : tie.Need-returns
 returns c =
