@@ -17,7 +17,8 @@ use Rattle.raft.specs.Journal.{head}
 use Rattle.raft.specs.Event.{Event}
 use Rattle.record.specs.Calls.{Begun, begun, handed}
 use Rattle.record.specs.WrittenLaws.{head-long}
-use Rattle.abi.specs.Boxes.{box-range, box-in, box-flat, Stores, Steps, box-event, Begins, box-begun, Hands, box-handed}
+use Rattle.flat.specs.Box.{box-range, box-in, box-flat}
+use Rattle.abi.specs.Boxes.{Stores, Steps, box-event, Begins, box-begun, Hands, box-handed}
 
 -- ---- an event
 

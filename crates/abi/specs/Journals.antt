@@ -10,7 +10,7 @@ use Rattle.record.specs.declared.Record.{Record}
 use Rattle.opening.specs.declared.Opened.{Opened}
 use Rattle.opening.specs.declared.Replayed.{Replayed}
 use Rattle.opening.specs.Calls.{Replaying, replaying, Replays, Opening, opens, Opens}
-use Rattle.abi.specs.Boxes.{box-range, box-in, box-flat}
+use Rattle.flat.specs.Box.{box-range, box-in, box-flat}
 
 -- What opening answers, and everything that was lent: on a refusal the numbers are as they were.
 pub record OpenFlat : Type 0 where

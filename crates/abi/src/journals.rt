@@ -1,7 +1,7 @@
 // Opening a journal for C and Rust: a box goes as its 22 numbers.
-use crate::boxes::box_in;
-use crate::boxes::box_range;
-use crate::boxes::put_box;
+use flat::box_in;
+use flat::box_range;
+use flat::put_box;
 use opening::Opened;
 use opening::Replayed;
 use record::Record;

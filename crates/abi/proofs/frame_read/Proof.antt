@@ -1,7 +1,7 @@
 -- The reader's answer, as numbers.
 use borrow.Author.Needs.{needs}
 use Rattle.frames.specs.Reading.{reading}
-use Rattle.abi.specs.FlatLaws.{read-numbers, read-nothing}
+use Rattle.abi.specs.FrameLaws.{read-numbers, read-nothing}
 use Rattle.abi.proofs.frame_read.Statement.{statement}
 use Rattle.abi.proofs.frame_read.Tie as tie
 

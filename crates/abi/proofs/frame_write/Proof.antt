@@ -1,6 +1,6 @@
 -- Numbers in range are the fields, and the writer answers for them.
 use borrow.Author.Needs.{needs}
-use Rattle.abi.specs.FlatLaws.{write-nothing, write-fields}
+use Rattle.abi.specs.FrameLaws.{write-nothing, write-fields}
 use Rattle.abi.proofs.frame_write.Statement.{statement}
 use Rattle.abi.proofs.frame_write.Tie as tie
 

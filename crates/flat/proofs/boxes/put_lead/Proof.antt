@@ -1,7 +1,7 @@
 -- Seven and seven, as the definition has them.
 use borrow.Author.Needs.{needs}
-use Rattle.abi.proofs.boxes.put_lead.Statement.{statement}
-use Rattle.abi.proofs.boxes.put_lead.Tie as tie
+use Rattle.flat.proofs.boxes.put_lead.Statement.{statement}
+use Rattle.flat.proofs.boxes.put_lead.Tie as tie
 
 put-seven-requires : tie.Need-put-seven-requires
 put-seven-requires c κs = search needs

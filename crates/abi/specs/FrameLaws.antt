@@ -11,7 +11,8 @@ use Rattle.frames.specs.declared.Parsed.{Parsed}
 use Rattle.frames.specs.Reading.{Reading, frame, refused}
 use Rattle.frames.specs.Fields.{answer}
 use Rattle.frames.specs.Writing.{Wrote, written}
-use Rattle.abi.specs.Flat.{flat, read-as, in-range, fields-in, Writes, write-flat}
+use Rattle.flat.specs.Message.{flat, in-range, fields-in}
+use Rattle.abi.specs.Frames.{read-as, Writes, write-flat}
 
 -- the reader's struct as numbers, where it read a frame
 pub read-numbers : (r : Reading) (p : Parsed) (n : List ℕ) {m : List ℕ} → p ≡ answer r → p .refusal ≡ 0 → m ≡ flat (p .fields) n
