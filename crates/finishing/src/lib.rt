@@ -14,11 +14,13 @@ use writing::requests_size;
 ghost use mathlib.Core.Path.{_≡_};
 ghost use mathlib.Core.Bool.{_&&_};
 ghost use mathlib.Core.List.{[]};
-ghost use Prim.Native.Nat.{_≤_};
+ghost use Prim.Native.Nat.{_+_, _-_, _*_, _≤_};
 ghost use lib.Dec.{eqb};
 ghost use lib.ListN.{length};
 ghost use Rattle.digits.specs.Room.{over};
 ghost use Rattle.raft.specs.Sends.{texts};
+ghost use Rattle.record.specs.declared.Decision.{Decision};
+ghost use Rattle.record.specs.declared.Record.{Record};
 ghost use Rattle.record.specs.Calls.{state-of, Runs};
 ghost use Rattle.record.specs.Deciding.{messages-of, Aimed, decided, Sound};
 ghost use Rattle.record.specs.Sizes.{is-silent, line-bytes, line-size, sent-size, roomy, Sendable, Tellable};
@@ -78,16 +80,16 @@ fn fits(line: usize, journal: usize, sent: usize, messages: usize) -> bool
 }
 
 // The step's line, where it has one. The lent log is the next record's.
-fn put_line(journal: &mut [u8], n: Record, d: Decision, terms: &[u32], orders: &[u64])
-    requires { ⌜ Tellable (d .next) (d .kept) (now terms) (now orders) ⌝ }
-    requires { ⌜ line-size n d ≤ length (now journal) ⌝ }
-    ensures { λ _. ⌜ now (journal .exit) ≡ over (now (journal .entry)) 0 (line-bytes n d (now (terms .entry)) (now (orders .entry))) ⌝ }
+fn put_line(journal: &mut [u8], line: usize, next: Record, kept: u16, terms: &[u32], orders: &[u64])
+    requires { ⌜ Tellable next kept (now terms) (now orders) ⌝ }
+    requires { ⌜ ((line ≡ 0 → ⊥) → 23 + 24 * (next .last - kept) ≤ length (now journal)) ⌝ }
+    ensures { λ _. ⌜ ((n : Record) (d : Decision) → d .next ≡ next → d .kept ≡ kept → line ≡ line-size n d
+        → now (journal .exit) ≡ over (now (journal .entry)) 0 (line-bytes n d (now (terms .entry)) (now (orders .entry)))) ⌝ }
 {
-    if is_silent(n, d) {
+    if line == 0 {
         return;
     }
-    let next = d.next;
-    writing::put_line(journal, next, d.kept, terms, orders);
+    writing::put_line(journal, next, kept, terms, orders);
 }
 
 // The step's messages. The lent log is the next record's.
@@ -137,7 +139,7 @@ pub fn finish(
     if !fits(line, journal.len(), sent, messages.len()) {
         return refused(n, 5);
     }
-    put_line(journal, n, d, terms, orders);
+    put_line(journal, line, next, d.kept, terms, orders);
     put_messages(messages, send, next, terms, orders);
     Step {
         refusal: 0,
@@ -182,7 +184,7 @@ pub fn finish_adding(
         first,
         d.count as usize,
     );
-    put_line(journal, n, d, &terms[..], &orders[..]);
+    put_line(journal, line, next, d.kept, &terms[..], &orders[..]);
     put_messages(messages, send, next, &terms[..], &orders[..]);
     Step {
         refusal: 0,

@@ -11,7 +11,7 @@ use lib.Seq.{length-take-le, take-all}
 use borrow.Author.Tests.{eqb-true, eq-eqb, ne-eqb, le-leb, leb-true, not-true, not-false}
 use Rattle.digits.specs.Tests.{and-left, and-right}
 use Rattle.digits.specs.Room.{over}
-use Rattle.digits.specs.RoomLaws.{length-over}
+use Rattle.digits.specs.RoomLaws.{over-nothing, length-over}
 use Rattle.frames.specs.declared.Entry.{Entry}
 use Rattle.frames.specs.Fields.{listed}
 use Rattle.frames.specs.Laws.{length-listed}
@@ -44,6 +44,28 @@ line-long l = simp (length-append, length-spell, chars-entries) (omega arith)
 pub head-long : (box mask : ℕ) → length (head box mask) ≡ 9
 unfolding head
 head-long box mask = simp (length-append, length-spell)
+
+-- a line of no bytes is none,
+pub line-none : (n : Record) (d : Decision) (terms orders journal : List ℕ) → 0 ≡ line-size n d → journal ≡ over journal 0 (line-bytes n d terms orders)
+unfolding line-size line-bytes
+line-none n d terms orders journal e = go (is-silent n d) e
+  where
+    line : List ℕ
+    line = line-text (record { box = d .next .me; term = d .next .term; vote = d .next .vote; kept = d .kept; entries = entries-of terms orders (d .kept) (d .next .last - d .kept) })
+
+    go : (b : Bool) → 0 ≡ cond b 0 (23 + 24 * (d .next .last - d .kept)) → journal ≡ over journal 0 (cond b [] line)
+    go true e = over-nothing journal 0
+    go false e = absurd (omega arith)
+
+-- and any other is the record's
+pub line-some : (n : Record) (d : Decision) (line : ℕ) → (line ≡ 0 → ⊥) → line ≡ line-size n d
+    → (is-silent n d ≡ false) × (23 + 24 * (d .next .last - d .kept) ≡ line)
+unfolding line-size
+line-some n d line z e = go (is-silent n d) e
+  where
+    go : (b : Bool) → line ≡ cond b 0 (23 + 24 * (d .next .last - d .kept)) → (b ≡ false) × (23 + 24 * (d .next .last - d .kept) ≡ line)
+    go true e = absurd (z e)
+    go false e = (refl, sym e)
 
 -- a step's line is as long as the struct says
 pub line-sized : (n : Record) (d : Decision) (terms orders : List ℕ) → line-size n d ≡ length (line-bytes n d terms orders)

@@ -2,7 +2,7 @@
 use borrow.Author.Needs.{needs}
 use native.Mathlib.Omega.{arith}
 use mathlib.Core.Path.{refl, sym}
-use Rattle.record.specs.WrittenLaws.{fits-both, refusal-left, short-left, log-stays, lent-sendable, lent-tellable, lent-left}
+use Rattle.record.specs.WrittenLaws.{fits-both, refusal-left, short-left, log-stays, lent-sendable, lent-tellable, lent-left, line-some}
 use Rattle.finishing.proofs.finish.Statement.{statement}
 use Rattle.finishing.proofs.finish.Tie as tie
 
@@ -50,8 +50,11 @@ put-line-requires c κs =
     let at-line-size = at-fits2 .before .before in
     let entered = at-line-size .before .before .before .before .before .before .before .before in
     let (terms, orders) = log-stays (entered .pre .0) (entered .pre .1) in
-    let room = fits-both (at-fits2 .fits2 .ensures) (at-if2 .if2 .left) in
-    (lent-tellable (entered .pre .0) (sym terms) (sym orders), omega (arith, room .0, at-line-size .line-size .ensures))
+    let room = fits-both (at-fits2 .fits2 .ensures) (at-if2 .if2 .left) in (
+      lent-tellable (entered .pre .0) (sym terms) (sym orders),
+      λ z. omega
+          (arith, room .0, line-some (entered .args .n) (entered .args .d) _ z (at-line-size .line-size .ensures) .1),
+    )
 
 put-messages-requires : tie.Need-put-messages-requires
 put-messages-requires c κs =
@@ -88,7 +91,8 @@ returns-3 c =
     let entered = at-if1 .before .before .before .before .before .before in
     let (terms, orders) = log-stays (entered .pre .0) (entered .pre .1) in
     lent-left (entered .pre .0) (sym terms) (sym orders) (omega (arith, at-if1 .if1 .left)) (entered .args .journal .now) (entered .args .messages .now) refl
-    (at-line-size .line-size .ensures) (at-sent-size .sent-size .ensures) (at-fits2 .fits2 .ensures) (at-if2 .if2 .left) (at-put-line .put-line .ensures)
+    (at-line-size .line-size .ensures) (at-sent-size .sent-size .ensures) (at-fits2 .fits2 .ensures) (at-if2 .if2 .left)
+    (at-put-line .put-line .ensures (entered .args .n) (entered .args .d) refl refl (at-line-size .line-size .ensures))
     (at-put-messages .put-messages .ensures)
 
 pub finish-spec : {M : Type 1} → statement M

@@ -3,7 +3,7 @@ use borrow.Author.Needs.{needs}
 use native.Mathlib.Omega.{arith}
 use Prim.Native.Nat.{_+_, _-_}
 use mathlib.Core.Path.{_≡_, refl}
-use Rattle.record.specs.WrittenLaws.{fits-both, refusal-left, short-left, stored-at, lent-sendable, lent-tellable, lent-left}
+use Rattle.record.specs.WrittenLaws.{fits-both, refusal-left, short-left, stored-at, lent-sendable, lent-tellable, lent-left, line-some}
 use Rattle.finishing.proofs.finish_adding.Statement.{statement}
 use Rattle.finishing.proofs.finish_adding.Tie as tie
 
@@ -74,7 +74,7 @@ put-line-requires c κs =
     let room = fits-both (at-fits2 .fits2 .ensures) (at-if2 .if2 .left) in
     let place : entered .args .d .kept - entered .args .d .first + entered .args .d .first ≡ entered .args .d .kept = omega (arith, entered .pre .decides .there) in (
       lent-tellable (entered .pre) (stored-at (entered .pre) _ _ _ place (at-store .store .ensures .0)) (stored-at (entered .pre) _ _ _ place (at-store .store .ensures .1)),
-      omega (arith, room .0, at-line-size .line-size .ensures),
+      λ z. omega (arith, room .0, line-some (entered .args .n) (entered .args .d) _ z (at-line-size .line-size .ensures) .1),
     )
 
 put-messages-requires : tie.Need-put-messages-requires
@@ -118,7 +118,8 @@ returns-3 c =
     let terms = stored-at (entered .pre) _ _ _ place (at-store .store .ensures .0) in
     let orders = stored-at (entered .pre) _ _ _ place (at-store .store .ensures .1) in
     lent-left (entered .pre) terms orders (omega (arith, at-if1 .if1 .left)) (entered .args .journal .now) (entered .args .messages .now) refl
-    (at-line-size .line-size .ensures) (at-sent-size .sent-size .ensures) (at-fits2 .fits2 .ensures) (at-if2 .if2 .left) (at-put-line .put-line .ensures)
+    (at-line-size .line-size .ensures) (at-sent-size .sent-size .ensures) (at-fits2 .fits2 .ensures) (at-if2 .if2 .left)
+    (at-put-line .put-line .ensures (entered .args .n) (entered .args .d) refl refl (at-line-size .line-size .ensures))
     (at-put-messages .put-messages .ensures)
 
 pub finish-adding-spec : {M : Type 1} → statement M
