@@ -140,8 +140,8 @@ module _ {known : Bool} (line : List ℕ) {b : Record} {terms orders room aside 
 
   -- refused: the line of the refusal, and all else as it was
   pub said-refused : (c .answer .refusal ≡ 0 → ⊥) → {room' : List ℕ} {bytes : ℕ} → Puts (c .journal) 0 (refusal-line (c .answer .refusal)) bytes room'
-      → Says b line terms orders room (record { fits = true; state = c .answer .state; bytes = bytes }) (c .terms) (c .orders) room'
-      × Known known (c .answer .state) (c .terms) (c .orders)
+      → Says b line terms orders room (record { fits = true; state = b; bytes = bytes }) (c .terms) (c .orders) room'
+      × Known known b (c .terms) (c .orders)
   unfolding saying said
   said-refused z {room'} {bytes} r =
       let said' = go (outcome-of line s) refl in
@@ -151,7 +151,7 @@ module _ {known : Bool} (line : List ℕ) {b : Record} {terms orders room aside 
       long = omega (arith, r .behind)
 
       go : (o : Outcome) → outcome-of line s ≡ o
-          → Says b line terms orders room (record { fits = true; state = c .answer .state; bytes = bytes }) (c .terms) (c .orders) room'
+          → Says b line terms orders room (record { fits = true; state = b; bytes = bytes }) (c .terms) (c .orders) room'
       go (done t ms) p = absurd (z (ap (λ (x : Called). x .answer .refusal) (done-left t ms p)))
       go (refuse n) p = rw (r .holds, long, refused-left n p, le-leb longest (length room) (roomy .answers), p)
 

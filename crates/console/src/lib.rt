@@ -17,8 +17,8 @@ pub struct Begun {
 
 // A later line's answer: as above, with the next box.
 pub struct Answered {
-    pub fits: bool,
     pub state: Record,
+    pub fits: bool,
     pub bytes: usize,
 }
 

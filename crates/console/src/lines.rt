@@ -92,8 +92,8 @@ pub fn answer_known(
     ensures { λ r. ⌜ Known known (r .state) (now (terms .exit)) (now (orders .exit)) ⌝ }
 {
     let done = step(n, known, line, terms, orders, room, messages);
-    let state = done.state;
     if done.refusal == 0 {
+        let state = done.state;
         put(room, done.line, &messages[..done.sent]);
         return Answered {
             fits: true,
@@ -104,7 +104,7 @@ pub fn answer_known(
     let bytes = put_refusal(room, done.refusal);
     Answered {
         fits: true,
-        state,
+        state: n,
         bytes,
     }
 }

@@ -27,7 +27,7 @@ use Rattle.raft.specs.Event.{Event, times-out, takes-order, is-prompted, receiv
 use Rattle.raft.specs.RecordLaws.{Good, self-voted}
 use Rattle.raft.specs.StepLaws.{timeout-ends, order-ends, prompt-ends}
 use Rattle.raft.specs.JoinLaws.{kept-self, kept-more, lacks-not}
-use Rattle.raft.specs.ReceiveLaws.{taken-by, taken-keeps, Ends, Arrives, receive-ends, sent-by, offer-facts}
+use Rattle.raft.specs.ReceiveLaws.{taken-by, taken-least, taken-keeps, Ends, Arrives, receive-ends, sent-by, offer-facts}
 use Rattle.raft.specs.ReceiveLaws.{vote-request-ends, vote-answer-ends, append-ends, append-answer-ends}
 use Rattle.journal.specs.KeptLaws.{joined-few}
 
@@ -94,11 +94,6 @@ moved-taken : (s : State) (term : ℕ) → 1 ≤ term → Moved s (taken term s)
 unfolding taking
 moved-taken s term l = taken-by (Moved s) term s (λ h. moved-up s term 0 h) (λ h. moved-not s)
 
--- which is then at least 1
-taken-least : (s : State) (term : ℕ) → 1 ≤ term → 1 ≤ taken term s .term
-unfolding taking
-taken-least s term l = taken-by (λ u. 1 ≤ u .term) term s (λ h. l) (λ h. omega arith)
-
 -- and then a vote, where it was free or is for the same
 moved-voting : (s t : State) (from : ℕ) → Moved s t → 1 ≤ t .term → (eqb (t .vote) 0 || eqb (t .vote) from) ≡ true → Moved s (voting t from)
 unfolding voting
@@ -120,7 +115,7 @@ moved-joining s term index prior commit es l n f =
     record {
       mine = m .mine;
       ours = m .ours;
-      least = λ z. absurd (omega (arith, taken-least s term l));
+      least = λ z. absurd (omega (arith, taken-least term s));
       rises = m .rises;
       stays = m .stays;
       few = rw same (joined-few (s .log) index es there f);
@@ -133,7 +128,7 @@ deliver-moves s g (vote-request from to term index prior) a =
     let d = sent-by s (vote-request from to term index prior) a in
     let m = moved-taken s term (d .early) in
     vote-request-ends (λ t ms. Moved s t) s from to term index prior
-    (λ y. moved-voting s (taken term s) from m (taken-least s term (d .early)) (y .free)) m
+    (λ y. moved-voting s (taken term s) from m (omega (arith, d .early, taken-least term s)) (y .free)) m
 deliver-moves s g (vote-answer from to term reply) a =
     let d = sent-by s (vote-answer from to term reply) a in
     vote-answer-ends (λ t ms. Moved s t) s from to term reply

@@ -15,17 +15,17 @@ pub struct Node {
 
 // A start's answer: 01's number, the box, and how many bytes of head were written.
 pub struct Started {
-    pub refusal: u8,
     pub node: Node,
     pub bytes: usize,
+    pub refusal: u8,
 }
 
 // A step's answer: 01's number, the next box, and how many bytes of journal line and messages were written.
 pub struct Answer {
-    pub refusal: u8,
     pub node: Node,
     pub line: usize,
     pub sent: usize,
+    pub refusal: u8,
 }
 
 // A step's answer, with the box around its record.

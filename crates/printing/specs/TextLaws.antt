@@ -7,7 +7,7 @@ use mathlib.Core.Bool.{Bool, true, false, cond}
 use mathlib.Core.List.{List, [], _∷_, _++_}
 use lib.Dec.{ltb}
 use lib.ListN.{length, getD, set, take, drop, length-append, length-drop}
-use lib.Seq.{take-at, take-length, take-suc, length-take-le}
+use lib.Seq.{take-at, take-length}
 use borrow.Author.Tests.{lt-ltb, le-ltb}
 use Rattle.digits.specs.Room.{over}
 use Rattle.digits.specs.RoomLaws.{length-over, over-nothing, over-over}
@@ -21,16 +21,6 @@ pub rest-whole : (s : List ℕ) (at : ℕ) → take (length s - at) (drop at s) 
 rest-whole s at = rw (← length-drop at s) (take-length (drop at s))
 
 -- ---- a text put at a place
-
--- one more of it
-pub put-next : (d s : List ℕ) {d₁ : List ℕ} (at i : ℕ) → at + i < length d → i < length s → d₁ ≡ over d at (take i s)
-    → set d₁ (at + i) (getD s i 0) ≡ over d at (take (i + 1) s)
-put-next d s at i h k e =
-    rw (e, add-one i, take-suc s i 0 k, stored-one (over d at (take i s)) (at + i) (getD s i 0) (omega (arith, length-over d at (take i s) (omega (arith, long)))))
-    (ap (λ (n : ℕ). over (over d at (take i s)) (at + n) (getD s i 0 ∷ [])) (sym long) ∙ over-over d at (take i s) (getD s i 0 ∷ []) (omega (arith, long)))
-  where
-    long : length (take i s) ≡ i
-    long = length-take-le i s (omega arith)
 
 -- all of it
 pub put-all : (s : List ℕ) (i : ℕ) → i ≡ length s → take i s ≡ s

@@ -7,15 +7,16 @@ pub struct Lead {
     pub matched: [u16; Record::BOXES],
 }
 
-// The box's record, but for its log, which the caller lends: `last` counts its entries.
+// The box's record, but for its log, which the caller lends: `last` counts its entries. What is read by itself comes first and what is only
+// copied last, here and in the answers: a copy that cuts elsewhere than the one before it has to wait for it (docs/BENCH.md).
 pub struct Record {
-    pub me: u8,
-    pub members: u8,
     pub term: u32,
-    pub vote: u8,
     pub last: u16,
     pub commit: u16,
+    pub vote: u8,
     pub role: u8,
+    pub me: u8,
+    pub members: u8,
     pub votes: u8,
     pub lead: Lead,
 }
@@ -52,8 +53,8 @@ pub enum Send {
 // What an event decides, before anything is written: 01's number; where that is 0 the next record, how many entries of the log it keeps, which of
 // the entries that were offered come behind them (from first up to count), and what is sent.
 pub struct Decision {
-    pub refusal: u8,
     pub next: Record,
+    pub refusal: u8,
     pub kept: u16,
     pub first: u8,
     pub count: u8,
@@ -62,16 +63,16 @@ pub struct Decision {
 
 // A step's answer: 01's number, the next record, and how many bytes of journal line and messages were written.
 pub struct Step {
-    pub refusal: u8,
     pub state: Record,
     pub line: usize,
     pub sent: usize,
+    pub refusal: u8,
 }
 
 // A start's answer: 01's number, the record, and how many bytes of head were written.
 pub struct Started {
-    pub refusal: u8,
     pub state: Record,
+    pub refusal: u8,
     pub bytes: usize,
 }
 

@@ -56,15 +56,15 @@ same-length-4 c = search needs
 returns : tie.Need-returns
 returns c =
     let at-put = c .before .before .before in
-    let at-if1 = at-put .before .before .before in
-    let at-step = at-if1 .before .before .before .before .before .before .before .before .before .before .before in
+    let at-if1 = at-put .before .before .before .before in
+    let at-step = at-if1 .before .before .before .before .before .before .before .before .before .before in
     let entered = at-step .before .before .before .before .before .before .before .before .before .before in
     let (knows, roomy) = entered .pre in
     said-done (entered .args .line .now) knows roomy (at-step .step .ensures) (at-if1 .if1 .taken) (at-put .put .ensures)
 
 put-refusal-requires : tie.Need-put-refusal-requires
 put-refusal-requires c κs =
-    let at-step = c .before .before .before .before .before .before .before .before .before .before .before .before in
+    let at-step = c .before .before .before .before .before .before .before .before .before .before .before in
     let entered = at-step .before .before .before .before .before .before .before .before .before .before in
     let roomy = entered .pre .1 in
     omega (arith, at-step .step .kept .1 .1 .1 .1 .1 .0, roomy .answers)
@@ -85,7 +85,7 @@ returns-2 : tie.Need-returns-2
 returns-2 c =
     let at-put-refusal = c .before .before in
     let at-if1 = at-put-refusal .before .before in
-    let at-step = at-if1 .before .before .before .before .before .before .before .before .before .before .before in
+    let at-step = at-if1 .before .before .before .before .before .before .before .before .before .before in
     let entered = at-step .before .before .before .before .before .before .before .before .before .before in
     let (knows, roomy) = entered .pre in
     said-refused (entered .args .line .now) knows roomy (at-step .step .ensures) (at-if1 .if1 .left) (at-put-refusal .put-refusal .ensures)

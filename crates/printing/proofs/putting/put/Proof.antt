@@ -1,4 +1,4 @@
--- The text up to a place stands there; the next character goes behind it (`put-next`).
+-- The text up to a place stands there; the next character goes behind it (`copied-next`).
 use borrow.Author.Needs.{needs}
 use native.Mathlib.Omega.{arith}
 use mathlib.Core.Path.{_≡_, refl, _∙_}
@@ -7,7 +7,8 @@ use mathlib.Core.List.{List}
 use lib.ListN.{length, take, length-set}
 use Rattle.digits.specs.Room.{over}
 use Rattle.digits.specs.RoomLaws.{over-nothing}
-use Rattle.printing.specs.TextLaws.{put-next, put-all}
+use Rattle.text.specs.Copying.{copied-next}
+use Rattle.printing.specs.TextLaws.{put-all}
 use Rattle.printing.proofs.putting.put.Statement.{statement}
 use Rattle.printing.proofs.putting.put.Tie as tie
 
@@ -50,7 +51,7 @@ loop-again c =
     record {
       within = omega arith;
       long = simp length-set (loop .inv .long);
-      holds = put-next (a .room .now) (a .text .now) (a .at) (loop .i) inside (omega arith) (loop .inv .holds);
+      holds = copied-next (a .room .now) (a .text .now) (a .at) (loop .i) inside (omega arith) (loop .inv .holds);
     }
 
 same-length : tie.Need-same-length Inv-loop μ-loop
