@@ -12,7 +12,6 @@ pub use decisions::step;
 pub use good::is_good;
 pub use progress::heard;
 pub use roles::following;
-pub use roles::fresh;
 pub use roles::standing;
 pub use roles::taken;
 pub use roles::won;

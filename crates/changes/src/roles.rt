@@ -1,4 +1,4 @@
-// Taking a term, and becoming a follower, a candidate or a leader: only here is a role written.
+// Taking a term, and becoming a follower, a candidate or a leader: but for the fresh record (`Record::fresh`) only here is a role written.
 use crate::commit::settled;
 use record::Lead;
 use record::Record;
@@ -8,45 +8,15 @@ ghost use mathlib.Core.Path.{_≡_};
 ghost use Prim.Native.Nat.{_≤_, _<_};
 ghost use lib.ListN.{length};
 ghost use Rattle.frames.specs.Limits.{IsBox, log-limit};
-ghost use Rattle.raft.specs.Record.{zeros, fresh};
 ghost use Rattle.raft.specs.AnyMessage.{taken};
 ghost use Rattle.raft.specs.Append.{following};
 ghost use Rattle.raft.specs.Timeout.{standing};
 ghost use Rattle.raft.specs.Winning.{leading};
 ghost use Rattle.raft.specs.RecordLaws.{Good};
 ghost use Rattle.raft.specs.Commit.{settle};
-ghost use Rattle.record.specs.Calls.{state-of, record-of};
+ghost use Rattle.record.specs.Calls.{state-of};
 ghost use Rattle.record.specs.Deciding.{Becomes};
 ghost use Rattle.record.specs.ChangeLaws.{next-of};
-
-// "Next and match are 0 unless leader"
-fn no_lead() -> Lead
-    ensures { λ r. ⌜ r ≡ record { next = zeros; matched = zeros } ⌝ }
-{
-    let none = [0u16; Record::BOXES];
-    Lead {
-        next: none,
-        matched: none,
-    }
-}
-
-// "A fresh box stands in term 0, has voted for nobody, has an empty log and is a follower."
-pub fn fresh(me: u8, members: u8) -> Record
-    ensures { λ r. ⌜ r ≡ record-of (fresh me members) ⌝ }
-{
-    let lead = no_lead();
-    Record {
-        me,
-        members,
-        term: 0,
-        vote: 0,
-        last: 0,
-        commit: 0,
-        role: Record::FOLLOWER,
-        votes: 0,
-        lead,
-    }
-}
 
 // "A candidate becomes follower."
 pub fn following(n: Record) -> Record
@@ -55,7 +25,7 @@ pub fn following(n: Record) -> Record
     let mut r = n;
     r.role = Record::FOLLOWER;
     r.votes = 0;
-    let lead = no_lead();
+    let lead = Lead::none();
     r.lead = lead;
     r
 }
@@ -84,7 +54,7 @@ pub fn standing(n: Record) -> Record
     r.vote = n.me;
     r.role = Record::CANDIDATE;
     r.votes = bit(n.me);
-    let lead = no_lead();
+    let lead = Lead::none();
     r.lead = lead;
     r
 }

@@ -16,6 +16,7 @@ use Rattle.raft.specs.Record.{is-membership, fresh}
 use Rattle.raft.specs.Journal.{head}
 use Rattle.journal.specs.Lines.{box-in, mask-in, head-shaped}
 use Rattle.journal.specs.Opening.{is-head}
+use Rattle.record.specs.declared.Record.{Record}
 use Rattle.record.specs.declared.Started.{Started}
 use Rattle.record.specs.Calls.{record-of, begun}
 use Rattle.record.specs.Calls as calls
@@ -46,23 +47,13 @@ pub shaped : (line : List ℕ) → head-shaped line ≡ true → is-start line �
 unfolding is-start is-head
 shaped line h = rw (h, eq-eqb (box-in line) (box-in line) refl)
 
--- ---- a start of no box
+-- ---- no start
 
--- it hands out none, and leaves the room
-pub record Nothing (answer : Started) (room room' : List ℕ) : Type 0 where
-  pub state : answer .state ≡ none
-  pub kept : room' ≡ room
-
-pub start-none : (room : List ℕ) {st : Started} {room' : List ℕ} → _≡_ {A = calls.Begun} (record { answer = st; journal = room' }) (begun 0 0 room)
-    → Nothing st room room'
-unfolding begun is-membership
-start-none room e = record { state = ap (λ (x : calls.Begun). x .answer .state) e; kept = ap (λ (x : calls.Begun). x .journal) e }
-
--- so room that is too short for any answer stays as it is
-pub begin-short : (line room : List ℕ) → length room < longest → {st : Started} {room' : List ℕ} → Nothing st room room'
-    → Begins line room (record { fits = false; started = false; state = st .state; bytes = 0 }) room'
+-- room that is too short for any answer stays as it is, and no box is handed out
+pub begin-short : (line room : List ℕ) → length room < longest → {n : Record} → n ≡ none
+    → Begins line room (record { fits = false; started = false; state = n; bytes = 0 }) room
 unfolding beginning
-begin-short line room h e = rw (lt-leb longest (length room) h, e .state, e .kept)
+begin-short line room h e = rw (lt-leb longest (length room) h, e)
 
 -- ---- a start by a line
 

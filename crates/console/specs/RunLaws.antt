@@ -7,13 +7,12 @@ use mathlib.Core.List.{List, [], _∷_, _++_, append-assoc, append-nil}
 use lib.Dec.{eqb}
 use lib.ListN.{length, take, drop, length-append, length-take, length-drop}
 use borrow.Author.Tests.{eqb-true, eqb-false}
-use Rattle.frames.specs.Limits.{log-limit}
+use Rattle.frames.specs.Limits.{log-limit, longest-message}
 use Rattle.frames.specs.Message.{line-feed}
 use Rattle.raft.specs.Record.{State}
 use Rattle.raft.specs.SendLaws.{All}
 use Rattle.journal.specs.Lines.{lines}
 use Rattle.journal.specs.LinesLaws.{Feedless, Whole, strung, Split, split, split-lines, lines-none, lines-first}
-use Rattle.journal.specs.LongestLaws.{longest-message}
 use Rattle.record.specs.declared.Record.{Record}
 use Rattle.record.specs.Calls.{state-of}
 use Rattle.console.specs.Session.{answers, talk, session}

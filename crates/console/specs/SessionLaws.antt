@@ -10,7 +10,7 @@ use lib.Seq.{length-take-le, drop-at, take-append-add}
 use borrow.Author.Tests.{eqb-true, leb-true, le-leb}
 use Rattle.digits.specs.Room.{over}
 use Rattle.digits.specs.Tests.{and-right}
-use Rattle.frames.specs.Limits.{log-limit}
+use Rattle.frames.specs.Limits.{log-limit, longest-message}
 use Rattle.frames.specs.Message.{text}
 use Rattle.frames.specs.Reading.{is-line, version, kind}
 use Rattle.frames.specs.OneSpelling.{refused-when}
@@ -24,7 +24,7 @@ use Rattle.raft.specs.Event.{step}
 use Rattle.raft.specs.SendLaws.{All}
 use Rattle.journal.specs.Lines.{lines, whole-bytes, box-in, mask-in, head-shaped}
 use Rattle.journal.specs.LinesLaws.{Whole, strung, strung-append, lines-first, lines-whole, whole-lines}
-use Rattle.journal.specs.LongestLaws.{longest-message, text-most}
+use Rattle.journal.specs.LongestLaws.{text-most}
 use Rattle.record.specs.declared.Record.{Record}
 use Rattle.record.specs.Calls.{state-of}
 use Rattle.console.specs.Session.{letter-t, letter-p, outcome-of, printed, next-of, answers, is-start, talk, session}

@@ -23,11 +23,11 @@ pub struct Answered {
 }
 
 impl Answered {
-    // The longest answer: a journal line of 119 bytes and the longest messages.
-    pub const LONGEST: usize = 905;
+    // The longest answer: a journal line of four entries, 119 bytes, and the longest messages, 905 bytes in all.
+    pub const LONGEST: usize = 23 + 24 * Record::ENTRIES + Answered::MESSAGES;
 
-    // The longest messages: six appends of four entries. More room for them changes nothing that anyone sees.
-    pub const MESSAGES: usize = 786;
+    // The longest messages: six appends of four entries, 131 bytes each. More room for them changes nothing that anyone sees.
+    pub const MESSAGES: usize = (Record::BOXES - 1) * (35 + 24 * Record::ENTRIES);
 }
 
 // What was made of a block of lines: the next box, how many bytes of whole lines were taken, and how many are to be printed.

@@ -148,8 +148,7 @@ pub fn begin(line: &[u8], room: &mut [u8]) -> Begun
     ensures { λ r. ⌜ r .bytes ≤ length (now (room .entry)) ⌝ }
 {
     if room.len() < Answered::LONGEST {
-        let none = events::start(0, 0, room);
-        let state = none.state;
+        let state = Record::fresh(0, 0);
         return Begun {
             fits: false,
             started: false,

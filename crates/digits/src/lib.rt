@@ -4,15 +4,16 @@
 // of the one below it, and all of them rest on one law over the width (specs/Laws.antt).
 //
 // A table is copied to the stack where it is used, so the writers make it once for a field and lend it to the halves.
+mod tables;
+
+use tables::DIGITS;
+pub use tables::LENGTHS;
 ghost use mathlib.Core.Path.{_≡_};
 ghost use mathlib.Core.Bool.{true};
 ghost use Prim.Native.Nat.{_+_, _≤_, _<_};
 ghost use lib.ListN.{length};
 ghost use Rattle.digits.specs.Digits.{is-digit, all-digits, worth, field, spelt, run};
 ghost use Rattle.digits.specs.Room.{over, Lent};
-
-// The sixteen digit characters.
-const DIGITS: [u8; 16] = *b"0123456789abcdef";
 
 // One of the sixteen characters, and nothing else, is a digit.
 fn is_digit(c: u8) -> bool

@@ -1,5 +1,5 @@
 // Starting a box: its record and the journal's head.
-use changes::fresh;
+use record::Record;
 use record::Started;
 ghost use mathlib.Core.Path.{_≡_};
 ghost use Rattle.record.specs.Calls.{Begun, begun};
@@ -11,21 +11,21 @@ pub fn start(me: u8, mask: u8, journal: &mut [u8]) -> Started
     if !rules::is_membership(me, mask) {
         return Started {
             refusal: 12,
-            state: fresh(0, 0),
+            state: Record::fresh(0, 0),
             bytes: 0,
         };
     }
     if journal.len() < 9 {
         return Started {
             refusal: 5,
-            state: fresh(0, 0),
+            state: Record::fresh(0, 0),
             bytes: 0,
         };
     }
     writing::put_head(journal, me, mask);
     Started {
         refusal: 0,
-        state: fresh(me, mask),
+        state: Record::fresh(me, mask),
         bytes: 9,
     }
 }

@@ -6,6 +6,7 @@ use mathlib.Core.List.{List}
 use lib.Dec.{eqb, leb}
 use lib.ListN.{length}
 use Rattle.digits.specs.Digits.{run}
+use Rattle.frames.specs.Limits.{entry-limit}
 use Rattle.frames.specs.Reading.{is-line, kind, count, size, text-size}
 
 -- A line long enough for the shortest frame, with the kind that stands in it.
@@ -27,4 +28,4 @@ pub record KindOf (s : List ℕ) (k : ℕ) : Type 0 where
 
 -- As long as its kind and count tell, with at most four entries: what `readable` asks of a text that is headed.
 abbrev pub is-long : List ℕ → Bool
-is-long s = eqb (length s) (text-size (size (kind s) (count s))) && leb (count s) 4
+is-long s = eqb (length s) (text-size (size (kind s) (count s))) && leb (count s) entry-limit

@@ -12,6 +12,7 @@ ghost use mathlib.Core.Bool.{true};
 ghost use Prim.Native.Nat.{_+_, _*_, _≤_, _<_};
 ghost use lib.ListN.{getD};
 ghost use Rattle.digits.specs.Digits.{field, run};
+ghost use Rattle.frames.specs.Limits.{entry-limit};
 ghost use Rattle.frames.specs.Fields.{no-entry, places, fields-of, no-fields, answer};
 ghost use Rattle.frames.specs.Reading as reading;
 ghost use Rattle.frame_reader.specs.Known.{LineOf, FixedOf, KindOf, is-long};
@@ -145,7 +146,7 @@ fn append_answer(s: &[u8]) -> Fields
 
 // The entry at a place of the four: what stands there, or none past the count.
 fn entry(s: &[u8], from: usize, at: usize, count: u8) -> Entry
-    requires { ⌜ at < 4 ⌝ }
+    requires { ⌜ at < entry-limit ⌝ }
     requires { ⌜ from ≤ 34 ⌝ }
     requires { ⌜ from + 24 * count ≤ run (now s) ⌝ }
     ensures { λ r. ⌜ r ≡ getD (reading.entries-at (now (s .entry)) from count) at no-entry ⌝ }

@@ -10,6 +10,7 @@ ghost use mathlib.Core.List.{[], _∷_};
 ghost use Prim.Native.Nat.{_+_, _*_, _≤_, _<_};
 ghost use lib.ListN.{length};
 ghost use Rattle.digits.specs.Room.{over};
+ghost use Rattle.frames.specs.Limits.{entry-limit};
 ghost use Rattle.frames.specs.Message.{vote-request, vote-answer, append, append-answer, number, start, entry-fields, spell, text};
 ghost use Rattle.frames.specs.Fields.{listed, message-of};
 ghost use Rattle.frames.specs.Writing.{Wrote, written};
@@ -80,7 +81,7 @@ pub fn put_entry(room: &mut [u8], at: usize, term: u32, order: u64)
 
 // So many entries, one behind the other, from a place on. (An inside call: the journal's lines use it too.)
 pub fn put_entries(room: &mut [u8], at: usize, entries: [Entry; Fields::ENTRIES], count: usize)
-    requires { ⌜ count ≤ 4 ⌝ }
+    requires { ⌜ count ≤ entry-limit ⌝ }
     requires { ⌜ at + 24 * count ≤ length (now room) ⌝ }
     ensures { λ _. ⌜ now (room .exit) ≡ over (now (room .entry)) at (spell (entry-fields (listed entries 0 count))) ⌝ }
 {
@@ -125,7 +126,7 @@ fn put_append(
     count: u8,
     entries: [Entry; Fields::ENTRIES],
 )
-    requires { ⌜ count ≤ 4 ⌝ }
+    requires { ⌜ count ≤ entry-limit ⌝ }
     requires { ⌜ 35 + 24 * count ≤ length (now room) ⌝ }
     ensures { λ _. ⌜ now (room .exit) ≡ over (now (room .entry)) 0 (text (append from to term index prior commit (listed entries 0 count))) ⌝ }
 {

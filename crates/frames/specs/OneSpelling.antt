@@ -10,6 +10,7 @@ use borrow.Author.Tests.{le-leb}
 use Rattle.digits.specs.Room.{over}
 use Rattle.digits.specs.Tests.{and-right}
 use Rattle.frames.specs.declared.Fields.{Fields}
+use Rattle.frames.specs.Limits.{entry-limit}
 use Rattle.frames.specs.Message.{Message, vote-request, vote-answer, append, append-answer, by-kind, entry-fields, table, sized, text}
 use Rattle.frames.specs.Rules.{obeys}
 use Rattle.frames.specs.Reading.{shaped, message-in, is-frame, Reading, frame, refused, reading}
@@ -66,7 +67,7 @@ pub record Typed (f : Fields) : Type 0 where
   pub commit : f .commit < 65536
   pub reply : f .reply < 256
   pub count : f .count < 256
-  pub entries : length (f .entries) ≡ 4
+  pub entries : length (f .entries) ≡ entry-limit
   pub entry-term : (i : ℕ) → getD (f .entries) i no-entry .term < 4294967296
   pub entry-order : (i : ℕ) → getD (f .entries) i no-entry .order < 18446744073709551616
 

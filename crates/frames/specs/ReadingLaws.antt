@@ -13,6 +13,7 @@ use Rattle.digits.specs.Laws.{run-ends}
 use Rattle.digits.specs.Tests.{and-left, and-right, and-both, at-each}
 use Rattle.frames.specs.declared.Entry.{Entry}
 use Rattle.frames.specs.declared.Fields.{Fields}
+use Rattle.frames.specs.Limits.{log-limit, entry-limit}
 use Rattle.frames.specs.Message.{Message, vote-request, vote-answer, append, append-answer, by-kind, line-feed}
 use Rattle.frames.specs.Rules.{is-start, is-index, is-pair, in-order, obeys}
 use Rattle.frames.specs.Reading.{lengths, size, text-size, is-line, version, kind, count, is-headed, shaped, readable}
@@ -126,7 +127,7 @@ unfolding readable
 form s h = shaped-form s (and-left (shaped s) _ h)
 
 -- and at most four entries
-few-counted : (s : List ℕ) → readable s ≡ true → count s ≤ 4
+few-counted : (s : List ℕ) → readable s ≡ true → count s ≤ entry-limit
 unfolding readable
 few-counted s h = leb-true _ _ (and-right (shaped s) _ h)
 
@@ -186,7 +187,7 @@ entry-past s at (suc n) (suc i) h = entry-past s (at + 24) n i (omega arith)
 -- ---- the struct of a message tells that message
 
 -- up to four entries are those of their places
-pub listed-places : (es : List Entry) → length es ≤ 4 → listed (places es) 0 (length es) ≡ es
+pub listed-places : (es : List Entry) → length es ≤ entry-limit → listed (places es) 0 (length es) ≡ es
 unfolding listed
 listed-places [] h = refl
 listed-places (a ∷ []) h = refl
@@ -196,7 +197,7 @@ listed-places (a ∷ b ∷ c ∷ d ∷ []) h = refl
 listed-places (a ∷ b ∷ c ∷ d ∷ e ∷ es) h = absurd (omega arith)
 
 -- the fields of a message with at most four entries tell that message
-pub message-told : (m : Message) → count-of m ≤ 4 → message-of (fields-of m) ≡ m
+pub message-told : (m : Message) → count-of m ≤ entry-limit → message-of (fields-of m) ≡ m
 unfolding fields-of by-kind
 message-told (vote-request a b c d e) h = refl
 message-told (vote-answer a b c d) h = refl
@@ -219,16 +220,16 @@ count-read s f =
     (λ e. rw e) (λ e. rw e) (λ e. rw e (length-entries s 34 _)) (λ e. rw e) (kind s) (f .least) (f .most) refl
 
 -- so what is readable tells at most four
-few-read : (s : List ℕ) → readable s ≡ true → count-of (message-in s) ≤ 4
+few-read : (s : List ℕ) → readable s ≡ true → count-of (message-in s) ≤ entry-limit
 few-read s h = omega (arith, count-read s (form s h), few-counted s h)
 
 -- and so does a message that obeys
-pub obeys-few : (m : Message) → obeys m ≡ true → count-of m ≤ 4
+pub obeys-few : (m : Message) → obeys m ≡ true → count-of m ≤ entry-limit
 obeys-few (vote-request a b c d e) h = omega arith
 obeys-few (vote-answer a b c d) h = omega arith
 obeys-few (append a b c d e f es) h =
-    leb-true (length es) 4
-    (four (is-start a b c && is-index d && is-pair d e && is-index f) (leb (length es) 4) (leb (d + length es) 256) (in-order e c es) h .1)
+    leb-true (length es) entry-limit
+    (four (is-start a b c && is-index d && is-pair d e && is-index f) (leb (length es) entry-limit) (leb (d + length es) log-limit) (in-order e c es) h .1)
 obeys-few (append-answer a b c d e) h = omega arith
 
 -- ---- the reader's answers
@@ -239,7 +240,7 @@ module _ (s : List ℕ) (f : Fields) (h : readable s ≡ true) (e : f ≡ fields
   tells = rw e (message-told (message-in s) (few-read s h))
 
   -- with at most four entries
-  pub read-few : f .count ≤ 4
+  pub read-few : f .count ≤ entry-limit
   read-few = rw (e, count-told) (few-read s h)
 
   -- the fields that the form tells, where the rules hold, are the frame's
@@ -257,8 +258,8 @@ pub frame-readable : (s : List ℕ) → is-frame s ≡ true → readable s ≡ t
 unfolding is-frame readable
 frame-readable s f =
     let form-true : shaped s ≡ true = and-left (shaped s) _ f in
-    let few : count-of (message-in s) ≤ 4 = obeys-few (message-in s) (and-right (shaped s) _ f) in
-    and-both (shaped s) _ form-true (le-leb (count s) 4 (omega (arith, count-read s (shaped-form s form-true))))
+    let few : count-of (message-in s) ≤ entry-limit = obeys-few (message-in s) (and-right (shaped s) _ f) in
+    and-both (shaped s) _ form-true (le-leb (count s) entry-limit (omega (arith, count-read s (shaped-form s form-true))))
 
 -- so what has not is no frame
 pub read-unreadable : (s : List ℕ) → readable s ≡ false → reading s ≡ refused

@@ -14,6 +14,7 @@ use Rattle.digits.specs.Tests.{and-left}
 use Rattle.digits.specs.Laws.{length-spelt, numeral-spelt, spelt-digits, all-digits-append, run-line, spelt-field, field-lt}
 use Rattle.frames.specs.declared.Entry.{Entry}
 use Rattle.frames.specs.declared.Fields.{Fields}
+use Rattle.frames.specs.Limits.{entry-limit}
 use Rattle.frames.specs.Message.{Message, vote-request, vote-answer, append, append-answer, by-kind}
 use Rattle.frames.specs.Message.{Field, number, width, value, start, entry-fields, table, spell, sized, line-feed, text}
 use Rattle.frames.specs.Rules.{obeys}
@@ -214,7 +215,7 @@ entry-told es n i u = go (ltb i n) refl u
         ∙ unused-entry (getD es i no-entry) v
 
 -- the four places are the whole list
-places-all : (es : List Entry) → length es ≡ 4 → places es ≡ es
+places-all : (es : List Entry) → length es ≡ entry-limit → places es ≡ es
 places-all [] h = absurd (omega arith)
 places-all (a ∷ []) h = absurd (omega arith)
 places-all (a ∷ b ∷ []) h = absurd (omega arith)
@@ -223,13 +224,13 @@ places-all (a ∷ b ∷ c ∷ d ∷ []) h = refl
 places-all (a ∷ b ∷ c ∷ d ∷ e ∷ es) h = absurd (omega arith)
 
 -- so the listed entries fill the four places as the struct does
-entries-told : (es : List Entry) (n : ℕ) → length es ≡ 4 → entries-unused n es ≡ true → places (listed es 0 n) ≡ es
+entries-told : (es : List Entry) (n : ℕ) → length es ≡ entry-limit → entries-unused n es ≡ true → places (listed es 0 n) ≡ es
 entries-told es n l u =
     let t = four (is-unused n 0 (getD es 0 no-entry)) (is-unused n 1 (getD es 1 no-entry)) (is-unused n 2 (getD es 2 no-entry)) _ u in
     rw (entry-told es n 0 (t .0), entry-told es n 1 (t .1), entry-told es n 2 (t .2), entry-told es n 3 (t .3)) (places-all es l)
 
 -- What the struct of a frame holds is no more than the message.
-pub fields-told : (f : Fields) → length (f .entries) ≡ 4 → one-frame f ≡ true → fields-of (message-of f) ≡ f
+pub fields-told : (f : Fields) → length (f .entries) ≡ entry-limit → one-frame f ≡ true → fields-of (message-of f) ≡ f
 unfolding fields-of by-kind listed
 fields-told f l h =
     at-kind (λ k. f .kind ≡ k → fields-of (message-of f) ≡ f)

@@ -16,6 +16,7 @@ use Rattle.digits.specs.Room.{over}
 use Rattle.digits.specs.RoomLaws.{over-over}
 use Rattle.frames.specs.declared.Entry.{Entry}
 use Rattle.frames.specs.declared.Fields.{Fields}
+use Rattle.frames.specs.Limits.{entry-limit}
 use Rattle.frames.specs.Message.{Message, vote-request, vote-answer, append, append-answer, by-kind, Field, width, value, entry-fields, table, spell, text}
 use Rattle.frames.specs.Rules.{obeys}
 use Rattle.frames.specs.Reading.{size, text-size}
@@ -134,7 +135,7 @@ length-text m = omega (arith, text-long m, chars-table m)
 
 -- Fields that are one frame, test by test.
 pub record Whole (f : Fields) : Type 0 where
-  pub few : f .count ≤ 4
+  pub few : f .count ≤ entry-limit
   pub least : 1 ≤ f .kind
   pub most : f .kind < 5
   pub obeyed : obeys (message-of f) ≡ true
@@ -145,10 +146,10 @@ pub record Whole (f : Fields) : Type 0 where
 pub whole : (f : Fields) → one-frame f ≡ true → Whole f
 unfolding one-frame
 whole f h =
-    let tests = four (leb (f .count) 4 && leb 1 (f .kind) && leb (f .kind) 4) (obeys (message-of f)) (fields-unused f) _ h in
-    let limits = four true (leb (f .count) 4) (leb 1 (f .kind)) (leb (f .kind) 4) (tests .0) in
+    let tests = four (leb (f .count) entry-limit && leb 1 (f .kind) && leb (f .kind) 4) (obeys (message-of f)) (fields-unused f) _ h in
+    let limits = four true (leb (f .count) entry-limit) (leb 1 (f .kind)) (leb (f .kind) 4) (tests .0) in
     record {
-      few = leb-true (f .count) 4 (limits .1);
+      few = leb-true (f .count) entry-limit (limits .1);
       least = leb-true 1 (f .kind) (limits .2);
       most = omega (arith, leb-true (f .kind) 4 (limits .3));
       obeyed = tests .1;

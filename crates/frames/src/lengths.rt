@@ -1,10 +1,8 @@
 // How long a frame is: by its kind and its count of entries.
+use digits::LENGTHS;
 ghost use mathlib.Core.Path.{_≡_};
 ghost use Prim.Native.Nat.{_<_};
 ghost use Rattle.frames.specs.Reading as reading;
-
-// "Fixed parts by kind, in a constant table of lengths", in bytes.
-const LENGTHS: [u8; 5] = [0, 14, 9, 17, 11];
 
 // The bytes of a frame of a kind with so many entries.
 pub fn size(kind: u8, count: u8) -> usize

@@ -34,6 +34,9 @@ impl Fields {
     // 01's limits: boxes 1 to 7, a log of 256 entries, 4 entries a frame.
     pub const BOXES: u8 = 7;
 
+    // A mask has a bit for each of them and no other.
+    pub const MASKS: u8 = 1 << Fields::BOXES;
+
     pub const LOG: u16 = 256;
 
     pub const ENTRIES: usize = 4;

@@ -4,6 +4,7 @@ use crate::Entry;
 use crate::Fields;
 ghost use mathlib.Core.Path.{_≡_};
 ghost use Prim.Native.Nat.{_≤_};
+ghost use Rattle.frames.specs.Limits.{entry-limit};
 ghost use Rattle.frames.specs.Message.{vote-request, vote-answer, append, append-answer};
 ghost use Rattle.frames.specs.Rules.{is-box, is-index, is-reply, is-pair, is-start, follows, in-order, obeys};
 ghost use Rattle.frames.specs.Fields.{listed, message-of, is-unused, entries-unused, fields-unused, one-frame};
@@ -53,7 +54,7 @@ fn follows(last: u32, term: u32, next: u32) -> bool
 // The entry rule over the first count entries: "previous term and the entry terms never fall, entry terms at least 1, none of them, previous
 // term included, above term". (An inside call: the journal's lines have the same rule.)
 pub fn in_order(entries: [Entry; Fields::ENTRIES], count: usize, previous: u32, term: u32) -> bool
-    requires { ⌜ count ≤ 4 ⌝ }
+    requires { ⌜ count ≤ entry-limit ⌝ }
     ensures { λ r. ⌜ r ≡ in-order previous term (listed entries 0 count) ⌝ }
 {
     let mut last = previous;
@@ -88,7 +89,7 @@ fn is_vote_answer(f: Fields) -> bool
 
 // "Kind 3: count at most 4, previous index + count at most 256", and the entry rule.
 fn is_append(f: Fields) -> bool
-    requires { ⌜ f .count ≤ 4 ⌝ }
+    requires { ⌜ f .count ≤ entry-limit ⌝ }
     ensures { λ r. ⌜ r ≡ obeys (append (f .from) (f .to) (f .term) (f .index) (f .prior) (f .commit) (listed (f .entries) 0 (f .count))) ⌝ }
 {
     let count = f.count;
@@ -114,7 +115,7 @@ fn is_append_answer(f: Fields) -> bool
 
 // The rules of the fields' kind. (An inside call, of the reader: it knows that the entries are at most four.)
 pub fn obeys(f: Fields) -> bool
-    requires { ⌜ f .count ≤ 4 ⌝ }
+    requires { ⌜ f .count ≤ entry-limit ⌝ }
     ensures { λ r. ⌜ r ≡ obeys (message-of f) ⌝ }
 {
     let kind = f.kind;

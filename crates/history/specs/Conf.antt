@@ -2,6 +2,7 @@
 -- a box (`meets`). Outside this file agreements are made, mapped and met; one is opened once, where there is no member (`Views.nobody`). Assumes nothing.
 use Prim.Native.Nat.{ℕ, _<_}
 use mathlib.Core.Path.{_≡_, subst}
+use Rattle.frames.specs.Limits.{masks}
 use Rattle.history.specs.Most.{Most, Met, both, most-map}
 
 -- "old mask (0 when there is one set only), new mask"
@@ -11,7 +12,7 @@ pub data Conf : Type 0 where
 
 -- Most of one set.
 pub record Agreed (members : ℕ) (P : ℕ → Type 0) : Type 0 where
-  pub small : members < 128
+  pub small : members < masks
   pub most : Most members P
 
 -- "Under a joint one, votes and commits need both majorities"

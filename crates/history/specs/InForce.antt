@@ -10,6 +10,7 @@ use mathlib.Core.List.{List}
 use lib.Dec.{eqb}
 use lib.ListN.{getD}
 use Rattle.frames.specs.declared.Entry.{Entry}
+use Rattle.frames.specs.Limits.{masks}
 use Rattle.frames.specs.Fields.{no-entry}
 use Rattle.history.specs.Most.{Most}
 use Rattle.history.specs.Alike.{Alike, alike-none, alike-entry, Shared}
@@ -174,7 +175,7 @@ in-force-fixed mask log zero = refl
 in-force-fixed mask log (suc k) = in-force-fixed mask log k
 
 -- and a majority of it agrees, whatever the log
-pub agree-fixed : (mask : ℕ) (log : List Entry) (k : ℕ) {P : ℕ → Type 0} → mask < 128 → Most mask P → Agree (in-force (fixed mask) log k) P
+pub agree-fixed : (mask : ℕ) (log : List Entry) (k : ℕ) {P : ℕ → Type 0} → mask < masks → Most mask P → Agree (in-force (fixed mask) log k) P
 unfolding Agrees
 agree-fixed mask log k {P} small most =
     subst (λ c. Agree c P) (sym (in-force-fixed mask log k)) (record { held = record { small = small; most = most } })

@@ -3,6 +3,7 @@
 use Prim.Native.Nat.{ℕ, _<_}
 use mathlib.Core.Path.{_≡_}
 use mathlib.Core.Bool.{true}
+use Rattle.frames.specs.Limits.{masks}
 use Rattle.raft.specs.Majority.{holds, majority}
 use Rattle.raft.specs.MajorityLaws.{meet}
 use Rattle.raft.specs.RecordLaws.{Member}
@@ -20,7 +21,7 @@ pub record Met (P Q : ℕ → Type 0) : Type 0 where
   pub right : Q box
 
 -- two majorities share a member
-pub both : {members : ℕ} {P Q : ℕ → Type 0} → members < 128 → Most members P → Most members Q → Met P Q
+pub both : {members : ℕ} {P Q : ℕ → Type 0} → members < masks → Most members P → Most members Q → Met P Q
 both {members} l p q =
     let s = meet members (p .boxes) (q .boxes) l (p .enough) (q .enough) in
     let m : Member (s .box) members = record { least = s .least; most = s .most; mask = l; held = s .member } in

@@ -8,6 +8,7 @@ use mathlib.Core.Bool.{Bool, true, false, cond, _&&_}
 use lib.Dec.{eqb, leb}
 use borrow.Author.Tests.{eqb-true, leb-true}
 use Rattle.digits.specs.Tests.{and-left, and-right}
+use Rattle.frames.specs.Limits.{boxes, masks}
 use Rattle.raft.specs.Majority.{holds}
 use Rattle.raft.specs.MajorityLaws.{at-box}
 use Rattle.raft.specs.Record.{State, last-index, term-at}
@@ -60,7 +61,7 @@ digits : (a b c d e f g : ℕ) → a ≤ 1 → b ≤ 1 → c ≤ 1 → d ≤ 1 �
 digits a b c d e f g p q r s t u v = omega arith
 
 -- a box that is held in the mask of those that match an index matches it
-matching-held : (s : State) (n i : ℕ) → 1 ≤ i → i ≤ 7 → holds (matching s n) i ≡ true → n ≤ matches s i
+matching-held : (s : State) (n i : ℕ) → 1 ≤ i → i ≤ boxes → holds (matching s n) i ≡ true → n ≤ matches s i
 unfolding holds matching
 matching-held s n =
     at-box (λ i. holds (matching s n) i ≡ true → n ≤ matches s i) (got 1 (d .of-1)) (got 2 (d .of-2)) (got 3 (d .of-3)) (got 4 (d .of-4))
@@ -80,7 +81,7 @@ matching-held s n =
 -- ---- the leader's commit
 
 -- Where one set is in force (today always: `in-force-fixed`).
-module _ {rule : Rule} {h : History} (s : State) (f : Facts rule h) (own : h .leaders .log (s .term) ≡ s .log) (small : s .members < 128)
+module _ {rule : Rule} {h : History} (s : State) (f : Facts rule h) (own : h .leaders .log (s .term) ≡ s .log) (small : s .members < masks)
     (one-set : in-force rule (s .log) (last-index s) ≡ one (s .members))
     (acked : (i : ℕ) → Member i (s .members) → 1 ≤ matches s i → h .acked i (s .term) (matches s i)) where
   -- an index of its own term that a majority matches

@@ -10,6 +10,7 @@ use lib.Seq.{take-length, drop-length}
 use borrow.Author.Tests.{eqb-true, eq-eqb}
 use Rattle.digits.specs.Tests.{and-left, and-right}
 use Rattle.frames.specs.declared.Entry.{Entry}
+use Rattle.frames.specs.Limits.{entry-limit}
 use Rattle.raft.specs.Record.{term-at}
 use Rattle.raft.specs.Journal.{same-entry, kept}
 use Rattle.raft.specs.Append.{stop, passes, joined}
@@ -64,11 +65,11 @@ kept-term (x ∷ a) (y ∷ b) = go (same-entry x y) refl (kept a b) (kept-term a
     go false e k rest = refl
 
 -- Where at most four entries are joined to a log, at most four follow what is kept.
-pub joined-few : (log : List Entry) (index : ℕ) (es : List Entry) → index ≤ length log → length es ≤ 4
-    → length (joined log index es) ≤ kept log (joined log index es) + 4
+pub joined-few : (log : List Entry) (index : ℕ) (es : List Entry) → index ≤ length log → length es ≤ entry-limit
+    → length (joined log index es) ≤ kept log (joined log index es) + entry-limit
 unfolding stop
 joined-few log index es l f = go (passes log index es) refl
   where
-    go : (b : Bool) → passes log index es ≡ b → length (joined log index es) ≤ kept log (joined log index es) + 4
+    go : (b : Bool) → passes log index es ≡ b → length (joined log index es) ≤ kept log (joined log index es) + entry-limit
     go true p = rw (joined-same log index es p) (omega (arith, kept-self log))
     go false p = omega (arith, joined-long log index es l p, kept-joined log index es l p)

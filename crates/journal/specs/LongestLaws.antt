@@ -1,5 +1,5 @@
 -- The longest that a step of a good record writes: a journal line with four entries, and six appends with four entries each. Assumes nothing.
-use Prim.Native.Nat.{ℕ, zero, suc, _+_, _*_, _≤_, _<_}
+use Prim.Native.Nat.{ℕ, zero, suc, _+_, _-_, _*_, _≤_, _<_}
 use native.Mathlib.Omega.{arith}
 use mathlib.Core.Path.{_≡_, refl}
 use mathlib.Core.Bool.{Bool, true, false, cond}
@@ -7,7 +7,7 @@ use mathlib.Core.List.{List, [], _∷_}
 use lib.Dec.{eqb}
 use lib.ListN.{length, length-append, length-drop}
 use borrow.Author.Tests.{eqb-false}
-use Rattle.frames.specs.Limits.{boxes}
+use Rattle.frames.specs.Limits.{boxes, entry-limit, longest-message}
 use Rattle.frames.specs.Message.{Message, vote-request, vote-answer, append, append-answer, text}
 use Rattle.frames.specs.Reading.{size}
 use Rattle.frames.specs.Rules.{obeys}
@@ -35,15 +35,11 @@ use Rattle.journal.specs.StepMoves.{Moved, step-moves}
 
 -- A journal line with four entries,
 abbrev pub longest-line : ℕ
-longest-line = 119
+longest-line = 23 + 24 * entry-limit
 
--- a message with four entries,
-abbrev pub longest-message : ℕ
-longest-message = 131
-
--- and one to each of six other boxes.
+-- and a message with four entries to each of six other boxes.
 abbrev pub longest-messages : ℕ
-longest-messages = 786
+longest-messages = (boxes - 1) * longest-message
 
 -- What a step from s to t writes is no longer: its line, and its messages.
 pub record Longest (s t : State) (ms : List Message) : Type 0 where
@@ -114,12 +110,12 @@ Six t ms = length ms < boxes
 -- Vote requests go to the other boxes alone,
 requests-six : (s : State) → Member (s .me) (s .members) → Six s (vote-requests s)
 unfolding vote-requests
-requests-six s m = others-fewer s (vote-request-to s) 1 7 (m .least) (omega arith)
+requests-six s m = others-fewer s (vote-request-to s) 1 boxes (m .least) (omega arith)
 
 -- and so do appends.
 appends-six : (s : State) → Member (s .me) (s .members) → Six s (appends s)
 unfolding appends
-appends-six s m = others-fewer s (append-to s) 1 7 (m .least) (omega arith)
+appends-six s m = others-fewer s (append-to s) 1 boxes (m .least) (omega arith)
 
 -- A timeout sends no others, and leaves the box among its members;
 timeout-six : (s : State) → Member (s .me) (s .members) → Ends Six (timeout s)

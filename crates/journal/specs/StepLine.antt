@@ -10,7 +10,7 @@ use lib.ListN.{length, drop, length-drop}
 use borrow.Author.Tests.{eqb-true, eqb-false, ltb-false, eq-eqb}
 use Rattle.digits.specs.Tests.{and-left}
 use Rattle.frames.specs.Clauses.{four}
-use Rattle.frames.specs.Limits.{boxes}
+use Rattle.frames.specs.Limits.{boxes, entry-limit}
 use Rattle.frames.specs.Message.{entry-fields, sized}
 use Rattle.frames.specs.Rules.{is-box}
 use Rattle.raft.specs.Majority.{holds}
@@ -51,7 +51,7 @@ same-when s t e =
 
 module _ (s t : State) (k : Good t) (f : Fits t) (m : Moved s t) where
   -- the entries behind what is kept
-  few-behind : length (drop (kept (s .log) (t .log)) (t .log)) ≤ 4
+  few-behind : length (drop (kept (s .log) (t .log)) (t .log)) ≤ entry-limit
   few-behind = rw length-drop (omega (arith, m .few))
 
   -- a vote that is set stays within a term

@@ -9,6 +9,7 @@ use lib.Dec.{eqb}
 use lib.ListN.{length, length-append}
 use borrow.Author.Tests.{eqb-true}
 use Rattle.frames.specs.declared.Entry.{Entry}
+use Rattle.frames.specs.Limits.{entry-limit}
 use Rattle.frames.specs.Message.{Message, vote-request, vote-answer, append, append-answer}
 use Rattle.raft.specs.Record.{State}
 use Rattle.raft.specs.Journal.{kept}
@@ -38,7 +39,7 @@ pub record Moves (s : State) (me members term vote : ℕ) (log : List Entry) : T
   pub least : term ≡ 0 → (vote ≡ s .vote) × (log ≡ s .log)
   pub rises : s .term ≤ term
   pub stays : s .term ≡ term → (s .vote ≡ 0 → ⊥) → vote ≡ s .vote
-  pub few : length log ≤ kept (s .log) log + 4
+  pub few : length log ≤ kept (s .log) log + entry-limit
 
 abbrev pub Moved : State → State → Type 0
 Moved s t = Moves s (t .me) (t .members) (t .term) (t .vote) (t .log)
@@ -106,7 +107,7 @@ moved-voting s t from m l free =
 
 -- or entries joined to the log
 moved-joining : (s : State) (term index prior commit : ℕ) (es : List Entry) → 1 ≤ term → lacks (taken term s .log) index prior ≡ false
-    → length es ≤ 4 → Moved s (joining (taken term s) index commit es)
+    → length es ≤ entry-limit → Moved s (joining (taken term s) index commit es)
 unfolding joining
 moved-joining s term index prior commit es l n f =
     let m = moved-taken s term l in

@@ -10,7 +10,7 @@ use Rattle.digits.specs.Tests.{and-left, and-right}
 use Rattle.frames.specs.declared.Entry.{Entry}
 use Rattle.frames.specs.declared.Fields.{Fields}
 use Rattle.frames.specs.declared.Parsed.{Parsed}
-use Rattle.frames.specs.Limits.{IsBox, log-limit}
+use Rattle.frames.specs.Limits.{IsBox, log-limit, entry-limit}
 use Rattle.frames.specs.Message.{Message, vote-request, vote-answer, append, append-answer, by-kind}
 use Rattle.frames.specs.Rules.{is-box, is-index, is-pair, is-start, obeys}
 use Rattle.frames.specs.Reading.{Reading, frame, refused, reading}
@@ -88,7 +88,7 @@ module _ (f : Fields) (h : one-frame f ≡ true) where
       offer-facts (f .from) (f .to) (f .term) (f .index) (f .prior) (f .commit) (listed (f .entries) 0 (f .count))
       (rw (kind-3 (f .kind) _ _ _ _ k) at (whole f h .obeyed))
 
-  append-few : f .kind ≡ 3 → f .count ≤ 4
+  append-few : f .kind ≡ 3 → f .count ≤ entry-limit
   append-few k = omega (arith, offers k .few, length-listed (f .entries) 0 (f .count))
 
   append-room : f .kind ≡ 3 → f .index + f .count ≤ log-limit

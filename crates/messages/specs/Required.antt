@@ -6,7 +6,7 @@ use mathlib.Core.List.{List}
 use lib.ListN.{length}
 use Rattle.frames.specs.declared.Fields.{Fields}
 use Rattle.frames.specs.Fields.{one-frame}
-use Rattle.frames.specs.Limits.{log-limit}
+use Rattle.frames.specs.Limits.{log-limit, entry-limit}
 use Rattle.record.specs.declared.Record.{Record}
 use Rattle.record.specs.Calls.{Ready}
 use Rattle.record.specs.Deciding.{OtherBox}
@@ -19,7 +19,7 @@ pub record Lent (b : Record) (terms : List ℕ) : Type 0 where
 -- What an append offers fits a log.
 pub record Offered (b : Record) (index count : ℕ) (terms : List ℕ) : Type 0 where
   pub lent : Lent b terms
-  pub few : count ≤ 4
+  pub few : count ≤ entry-limit
   pub room : index + count ≤ log-limit
 
 -- A message from another member, at a good record.

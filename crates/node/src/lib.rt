@@ -5,7 +5,8 @@ use record::Record;
 use record::Step;
 ghost use mathlib.Core.Path.{_≡_};
 ghost use Rattle.raft.specs.Event.{times-out, takes-order, is-prompted, receives};
-ghost use Rattle.record.specs.Calls.{handed};
+ghost use Rattle.raft.specs.Record.{fresh};
+ghost use Rattle.record.specs.Calls.{record-of, handed};
 ghost use Rattle.node.specs.Outside.{Starts, Calls};
 
 // The box.
@@ -49,6 +50,14 @@ impl Node {
     pub const LOG: usize = Record::LOG;
 
     pub const ENTRIES: usize = Record::ENTRIES;
+
+    // "A fresh box stands in term 0, has voted for nobody, has an empty log and is a follower."
+    pub fn fresh(me: u8, members: u8) -> Node
+        ensures { λ r. ⌜ r ≡ record { state = record-of (fresh me members) } ⌝ }
+    {
+        let state = Record::fresh(me, members);
+        Node { state }
+    }
 
     // Starts a box: 12 exactly when its number or mask is bad, 5 exactly when the room is too short for the head.
     pub fn start(me: u8, mask: u8, journal: &mut [u8]) -> Started

@@ -129,7 +129,7 @@ shaped-run s h =
 
 -- and its fields, at their places, are the line
 pub fields-line : (s : List ℕ) (who term vote kept count : ℕ) (es : List Entry) → who ≡ field s 4 1 → term ≡ field s 6 4 → vote ≡ field s 14 1
-    → kept ≡ field s 16 2 → count ≡ field s 20 1 → es ≡ places (entries-at s 22 count) → count-in s ≤ 4
+    → kept ≡ field s 16 2 → count ≡ field s 20 1 → es ≡ places (entries-at s 22 count) → count-in s ≤ entry-limit
     → record { box = who; term = term; vote = vote; kept = kept; entries = listed es 0 count } ≡ line-in s
 unfolding line-in box-in count-in
 fields-line s who term vote kept count es a b c d e f h =

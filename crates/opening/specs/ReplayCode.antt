@@ -68,7 +68,7 @@ module _ (b : Record) (bytes terms orders : List ℕ) where
     replay-refused h = rw (h, and-false (line-shaped bytes), f)
 
     -- more entries than a line has
-    pub replay-many : 4 < count-in bytes → Replays b bytes terms orders r terms orders
+    pub replay-many : entry-limit < count-in bytes → Replays b bytes terms orders r terms orders
     unfolding line-in
     replay-many h = replay-refused (go (allows s (line-in bytes)) refl)
       where

@@ -3,7 +3,6 @@ use crate::Block;
 use crate::Replayed;
 use crate::lines::head_mask;
 use crate::whole::replay_line;
-use changes::fresh;
 use record::Record;
 use text::line_end;
 ghost use mathlib.Core.Path.{_≡_};
@@ -15,13 +14,13 @@ pub fn replay_head(me: u8, line: &[u8]) -> Replayed
 {
     let mask = head_mask(me, line);
     if mask == 0 {
-        let none = fresh(0, 0);
+        let none = Record::fresh(0, 0);
         return Replayed {
             refusal: 11,
             state: none,
         };
     }
-    let state = fresh(me, mask);
+    let state = Record::fresh(me, mask);
     Replayed { refusal: 0, state }
 }
 

@@ -10,7 +10,7 @@ ghost use mathlib.Core.Bool.{cond};
 ghost use mathlib.Core.List.{List};
 ghost use Prim.Native.Nat.{ℕ, _≤_};
 ghost use lib.ListN.{length};
-ghost use Rattle.frames.specs.Limits.{log-limit};
+ghost use Rattle.frames.specs.Limits.{log-limit, entry-limit};
 ghost use Rattle.record.specs.Calls.{state-of};
 ghost use Rattle.journal.specs.Lines.{mask-in, head-shaped, line-shaped, line-in};
 ghost use Rattle.journal.specs.Opening.{is-head, allows};
@@ -62,7 +62,7 @@ pub fn is_shaped(s: &[u8]) -> bool
 pub fn line_fields(s: &[u8]) -> LineFields
     requires { ⌜ Readable (now s) ⌝ }
     ensures { λ r. ⌜ line-of r ≡ line-in (now (s .entry)) ⌝ }
-    ensures { λ r. ⌜ r .count ≤ 4 ⌝ }
+    ensures { λ r. ⌜ r .count ≤ entry-limit ⌝ }
 {
     let count = digits::get_u8(s, 20);
     let entries = frame_reader::entries(s, 22, count);
@@ -92,7 +92,7 @@ fn allows_numbers(n: Record, l: LineFields) -> bool
 // Every rule of a line behind the record so far.
 pub fn is_allowed(n: Record, l: LineFields, terms: &[u32]) -> bool
     requires { ⌜ length (now terms) ≡ log-limit ⌝ }
-    requires { ⌜ l .count ≤ 4 ⌝ }
+    requires { ⌜ l .count ≤ entry-limit ⌝ }
     ensures { λ r. ⌜ ((orders : List ℕ) → r ≡ allows (state-of n (now (terms .entry)) orders) (line-of l)) ⌝ }
 {
     if !allows_numbers(n, l) {

@@ -8,7 +8,6 @@ use crate::lines::is_allowed;
 use crate::lines::is_shaped;
 use crate::lines::line_fields;
 use changes::following;
-use changes::fresh;
 use frames::Fields;
 use record::Record;
 use text::line_end;
@@ -79,7 +78,7 @@ pub fn replay(
 fn refused(number: u8, line: usize) -> Opened
     ensures { λ r. ⌜ r ≡ record { refusal = number; state = none; bytes = 0; fault = line } ⌝ }
 {
-    let state = fresh(0, 0);
+    let state = Record::fresh(0, 0);
     Opened {
         refusal: number,
         state,
@@ -155,7 +154,7 @@ pub fn open(
     }
     let mut made = [0u32; Record::LOG];
     let mut taken = [0u64; Record::LOG];
-    let found = replay_all(fresh(me, mask), bytes, end, &mut made, &mut taken);
+    let found = replay_all(Record::fresh(me, mask), bytes, end, &mut made, &mut taken);
     if found.refusal != 0 {
         return found;
     }

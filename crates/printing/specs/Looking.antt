@@ -1,17 +1,18 @@
 -- The program `replay`: the box asked for, and the record that a journal opens to, as text. Assumes nothing.
-use Prim.Native.Nat.{ℕ, _-_}
+use Prim.Native.Nat.{ℕ, _+_, _-_}
 use mathlib.Core.Bool.{Bool, cond, _&&_}
 use mathlib.Core.List.{List, [], _∷_, _++_}
 use lib.Dec.{eqb, leb}
 use lib.ListN.{length, getD}
 use Rattle.frames.specs.declared.Entry.{Entry}
+use Rattle.frames.specs.Limits.{boxes}
 use Rattle.frames.specs.Message.{entry-fields, spell, line-feed}
 use Rattle.raft.specs.Record.{State, last-index}
 use Rattle.printing.specs.Text.{decimal}
 
 -- "a first line with one digit, the box asked for": 1 to 7; 0, which is no box, where it is another line.
 unfoldable pub asks : List ℕ → Bool
-asks s = eqb (length s) 2 && (leb 49 (getD s 0 0) && leb (getD s 0 0) 55 && eqb (getD s 1 0) line-feed)
+asks s = eqb (length s) 2 && (leb 49 (getD s 0 0) && leb (getD s 0 0) (48 + boxes) && eqb (getD s 1 0) line-feed)
 
 unfoldable pub asked-box : List ℕ → ℕ
 asked-box s = cond (asks s) (getD s 0 0 - 48) 0

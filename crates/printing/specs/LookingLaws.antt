@@ -13,6 +13,7 @@ use Rattle.digits.specs.Tests.{and-left, and-right}
 use Rattle.digits.specs.Room.{over}
 use Rattle.digits.specs.RoomLaws.{length-over}
 use Rattle.frames.specs.declared.Entry.{Entry}
+use Rattle.frames.specs.Limits.{boxes, log-limit}
 use Rattle.frames.specs.Message.{entry-fields, spell, line-feed}
 use Rattle.frames.specs.WritingLaws.{length-spell, chars-entries}
 use Rattle.raft.specs.Lent.{entries-of}
@@ -21,7 +22,7 @@ use Rattle.record.specs.declared.Record.{Record}
 use Rattle.record.specs.Calls.{state-of}
 use Rattle.printing.specs.Text.{decimal-in, decimal}
 use Rattle.printing.specs.Looking.{asks, asked-box, space, numbered, first-shown, entry-shown, log-shown, shown}
-use Rattle.printing.specs.Putting.{Puts}
+use Rattle.printing.specs.Putting.{shown-most, Puts}
 use Rattle.printing.specs.TextLaws.{put-behind, put-both, decimal-long}
 
 -- ---- the box asked for
@@ -30,7 +31,7 @@ pub asks-long : (s : List ℕ) → (length s ≡ 2 → ⊥) → asks s ≡ false
 unfolding asks
 asks-long s h = rw (ne-eqb (length s) 2 h)
 
-pub asks-by : (s : List ℕ) → length s ≡ 2 → asks s ≡ (leb 49 (getD s 0 0) && leb (getD s 0 0) 55 && eqb (getD s 1 0) line-feed)
+pub asks-by : (s : List ℕ) → length s ≡ 2 → asks s ≡ (leb 49 (getD s 0 0) && leb (getD s 0 0) (48 + boxes) && eqb (getD s 1 0) line-feed)
 unfolding asks
 asks-by s h = rw (eq-eqb (length s) 2 h)
 
@@ -42,7 +43,7 @@ pub asks-facts : (s : List ℕ) → asks s ≡ true → Asking s
 unfolding asks
 asks-facts s h =
     let all = and-right (eqb (length s) 2) _ h in
-    let range = and-left (leb 49 (getD s 0 0) && leb (getD s 0 0) 55) _ all in
+    let range = and-left (leb 49 (getD s 0 0) && leb (getD s 0 0) (48 + boxes)) _ all in
     record {
       long = eqb-true (length s) 2 (and-left (eqb (length s) 2) _ h);
       digit = leb-true 49 (getD s 0 0) (and-left (leb 49 (getD s 0 0)) _ range);
@@ -137,7 +138,7 @@ logged-next d {d₁} {d₂} at terms orders n h p q =
     line = put-behind line-feed (omega (arith, long)) (record { behind = omega (arith, digits); holds = q })
 
 -- the first line, and the log behind it
-pub shown-put : (d : List ℕ) {d₁ d₂ : List ℕ} (bytes : ℕ) (b : Record) (terms orders : List ℕ) {first : ℕ} → 6484 ≤ length d → b .last ≤ 256
+pub shown-put : (d : List ℕ) {d₁ d₂ : List ℕ} (bytes : ℕ) (b : Record) (terms orders : List ℕ) {first : ℕ} → shown-most ≤ length d → b .last ≤ log-limit
     → Puts d 0 (first-shown bytes (b .term) (b .vote) (b .last)) first d₁ → first ≤ 84
     → d₂ ≡ over d₁ first (log-shown (entries-of terms orders 0 (b .last)))
     → Puts d 0 (shown bytes (state-of b terms orders)) (first + 25 * b .last) d₂

@@ -18,9 +18,13 @@ pub record Listable (terms orders : List ℕ) (last : ℕ) (room : List ℕ) (at
   pub orders-hold : last ≤ length orders
   pub wide : at + 25 * last ≤ length room
 
--- What a record's text requires: the log is lent whole, the record's part of it fits, and the room holds any record: four numbers and 256 entries.
+-- Any record's text fits here: four numbers, each with what stands behind it, and a line for each entry of a full log.
+abbrev pub shown-most : ℕ
+shown-most = 84 + 25 * log-limit
+
+-- What a record's text requires: the log is lent whole, the record's part of it fits, and the room holds any record.
 pub record Showable (b : Record) (terms orders room : List ℕ) : Type 0 where
   pub terms-long : length terms ≡ log-limit
   pub orders-long : length orders ≡ log-limit
   pub fits : b .last ≤ log-limit
-  pub wide : 6484 ≤ length room
+  pub wide : shown-most ≤ length room

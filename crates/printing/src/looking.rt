@@ -1,5 +1,6 @@
 // The program `replay`: the box asked for, and a record as text.
 use crate::putting::put_decimal;
+use frames::Fields;
 use record::Record;
 ghost use mathlib.Core.Path.{_≡_};
 ghost use Prim.Native.Nat.{_+_, _≤_};
@@ -8,7 +9,10 @@ ghost use Rattle.digits.specs.Room.{over};
 ghost use Rattle.raft.specs.Lent.{entries-of};
 ghost use Rattle.record.specs.Calls.{state-of};
 ghost use Rattle.printing.specs.Looking.{asks, asked-box, numbered, first-shown, log-shown, shown};
-ghost use Rattle.printing.specs.Putting.{Puts, Listable, Showable};
+ghost use Rattle.printing.specs.Putting.{Puts, shown-most, Listable, Showable};
+
+// The digit of the last box.
+const LAST: u8 = b'0' + Fields::BOXES;
 
 // "a first line with one digit, the box asked for"
 fn is_asking(s: &[u8]) -> bool
@@ -17,7 +21,7 @@ fn is_asking(s: &[u8]) -> bool
     if s.len() != 2 {
         return false;
     }
-    (b'1' <= s[0]) & (s[0] <= b'7') & (s[1] == 10)
+    (b'1' <= s[0]) & (s[0] <= LAST) & (s[1] == 10)
 }
 
 // The box that the first line asks for; 0, which is no box, where it is not one digit from 1 to 7.
@@ -67,11 +71,11 @@ fn put_log(room: &mut [u8], at: usize, terms: &[u32], orders: &[u64], last: usiz
     }
 }
 
-// A record as text, at the room's start; answers its bytes. An inside call: four numbers and 256 entries, 6,484 bytes, hold any record.
+// A record as text, at the room's start; answers its bytes. An inside call: the room holds any record.
 pub fn show(n: Record, bytes: u64, terms: &[u32], orders: &[u64], room: &mut [u8]) -> usize
     requires { ⌜ Showable n (now terms) (now orders) (now room) ⌝ }
     ensures { λ r. ⌜ Puts (now (room .entry)) 0 (shown bytes (state-of n (now (terms .entry)) (now (orders .entry)))) r (now (room .exit)) ⌝ }
-    ensures { λ r. ⌜ r ≤ 6484 ⌝ }
+    ensures { λ r. ⌜ r ≤ shown-most ⌝ }
 {
     let last = n.last;
     let first = put_first(room, bytes, n.term, n.vote, last);

@@ -208,13 +208,13 @@ same-matching s n h = rw (same 1 refl, same 2 refl, same 3 refl, same 4 refl, sa
     same i b = same-leb n (matches s i) (h i b)
 
 -- and where a majority matches an index above the best, one matches the next
-matched-next : (s : State) (n : ℕ) → best-to s 7 < n → is-matched s n ≡ true → is-matched s (suc n) ≡ true
+matched-next : (s : State) (n : ℕ) → best-to s boxes < n → is-matched s n ≡ true → is-matched s (suc n) ≡ true
 unfolding is-matched
 matched-next s n h q = rw (same-matching s n apart) at q
   where
     apart : (i : ℕ) → is-box i ≡ true → matches s i ≡ n → ⊥
     apart i b e =
-        omega (arith, best-takes s 7 i (leb-true 1 i (and-left (leb 1 i) _ b)) (leb-true i 7 (and-right (leb 1 i) _ b)) (rw e q))
+        omega (arith, best-takes s boxes i (leb-true 1 i (and-left (leb 1 i) _ b)) (leb-true i boxes (and-right (leb 1 i) _ b)) (rw e q))
 
 -- A best so far: in range, and a majority matches it.
 record Fair (s : State) (b : ℕ) : Type 0 where
@@ -248,13 +248,13 @@ module _ (s : State) (r : Ranged s) where
 
   -- an index in range that a majority matches is not above the best: else so would be the next, and so on to the last, which the box
   -- itself matches
-  best-top : (d n : ℕ) → n + d ≡ last-index s → is-matched s n ≡ true → n ≤ best-to s 7
+  best-top : (d n : ℕ) → n + d ≡ last-index s → is-matched s n ≡ true → n ≤ best-to s boxes
   best-top zero n e q =
       let same : n ≡ matches s (s .me) = omega (arith, me-matches) in
-      rw same (best-takes s 7 (s .me) (r .me-least) (r .me-most) (rw same at q))
-  best-top (suc d) n e q = go (decLe n (best-to s 7)) (best-top d (suc n) (omega arith))
+      rw same (best-takes s boxes (s .me) (r .me-least) (r .me-most) (rw same at q))
+  best-top (suc d) n e q = go (decLe n (best-to s boxes)) (best-top d (suc n) (omega arith))
     where
-      go : Dec (n ≤ best-to s 7) → (is-matched s (suc n) ≡ true → suc n ≤ best-to s 7) → n ≤ best-to s 7
+      go : Dec (n ≤ best-to s boxes) → (is-matched s (suc n) ≡ true → suc n ≤ best-to s boxes) → n ≤ best-to s boxes
       go (yes k) next = k
       go (no k) next = omega (arith, next (matched-next s n (omega arith) q))
 
@@ -262,7 +262,7 @@ module _ (s : State) (r : Ranged s) where
   pub best-highest : Highest (is-matched s) 0 (last-index s) (best s)
   unfolding best best-to
   best-highest =
-      let f = best-fair 7 (omega arith) in
+      let f = best-fair boxes (omega arith) in
       record {
         least = omega arith;
         most = omega (arith, f .most);

@@ -10,7 +10,7 @@ use lib.Count.{ones, ones-step, ones-le}
 use lib.Dec.{eqb}
 use borrow.Author.Tests.{eqb-true, ltb-true, eq-eqb, not-true}
 use Rattle.digits.specs.Tests.{or-right, each-below, at-each}
-use Rattle.frames.specs.Limits.{boxes}
+use Rattle.frames.specs.Limits.{boxes, masks}
 use Rattle.raft.specs.Majority.{bit, holds, majority, within}
 use Rattle.raft.specs.Record.{is-other}
 
@@ -103,20 +103,20 @@ only : ℕ → ℕ → Bool
 only members k = not (majority members (bit (suc k))) || eqb members (bit (suc k))
 
 -- so it is for each mask and each box, by a computed test
-only-each : each-below (λ m. each-below (only m) boxes) 128 ≡ true
+only-each : each-below (λ m. each-below (only m) boxes) masks ≡ true
 unfolding only majority ones
 only-each = refl
 
 -- a box that is a majority alone is the only member
-pub one-member : (members i : ℕ) → members < 128 → 1 ≤ i → i ≤ boxes → majority members (bit i) ≡ true → members ≡ bit i
+pub one-member : (members i : ℕ) → members < masks → 1 ≤ i → i ≤ boxes → majority members (bit i) ≡ true → members ≡ bit i
 unfolding only
 one-member members zero l a b h = absurd (omega arith)
 one-member members (suc k) l a b h =
-    let test = at-each (only members) boxes (at-each (λ m. each-below (only m) boxes) 128 only-each members l) k (omega arith) in
+    let test = at-each (only members) boxes (at-each (λ m. each-below (only m) boxes) masks only-each members l) k (omega arith) in
     eqb-true members (bit (suc k)) (or-right (majority members (bit (suc k))) _ h test)
 
 -- so one box is held
-pub one-held : (members i : ℕ) → members < 128 → 1 ≤ i → i ≤ boxes → majority members (bit i) ≡ true → ones members ≡ 1
+pub one-held : (members i : ℕ) → members < masks → 1 ≤ i → i ≤ boxes → majority members (bit i) ≡ true → ones members ≡ 1
 unfolding ones
 one-held members i l a b h =
     rw (one-member members i l a b h) (at-box (λ j. ones (bit j) ≡ 1) refl refl refl refl refl refl refl i a b)
@@ -126,7 +126,7 @@ apart : ℕ → ℕ → Bool
 apart k n = not (is-other (suc k) (bit (suc k)) (suc n))
 
 -- and no other
-pub none-other : (members i j : ℕ) → members < 128 → 1 ≤ i → i ≤ boxes → majority members (bit i) ≡ true → 1 ≤ j → j ≤ boxes
+pub none-other : (members i j : ℕ) → members < masks → 1 ≤ i → i ≤ boxes → majority members (bit i) ≡ true → 1 ≤ j → j ≤ boxes
     → is-other i members j ≡ false
 unfolding apart is-other holds
 none-other members zero j l a b h c d = absurd (omega arith)
@@ -205,9 +205,9 @@ digit-held m k e = rw (same, e)
     same = omega arith
 
 -- two majorities of one membership share a member
-pub meet : (members a b : ℕ) → members < 128 → majority members a ≡ true → majority members b ≡ true → Shared members a b
+pub meet : (members a b : ℕ) → members < masks → majority members a ≡ true → majority members b ≡ true → Shared members a b
 meet members a b l p q =
-    let c = common 7 members a b l (omega (arith, most-held members a p, most-held members b q)) in
+    let c = common boxes members a b l (omega (arith, most-held members a p, most-held members b q)) in
     record {
       box = suc (c .at);
       least = omega arith;

@@ -5,7 +5,7 @@ use mathlib.Core.List.{List, [], _∷_}
 use lib.Dec.{eqb, ltb, leb}
 use lib.ListN.{length, getD, take}
 use Rattle.frames.specs.declared.Entry.{Entry}
-use Rattle.frames.specs.Limits.{boxes, log-limit}
+use Rattle.frames.specs.Limits.{boxes, masks, log-limit}
 use Rattle.frames.specs.Rules.{is-box, in-order}
 use Rattle.frames.specs.Fields.{no-entry}
 use Rattle.raft.specs.Majority.{holds, within}
@@ -109,7 +109,7 @@ as-leader lead s = with-role leader (with-votes 0 (with-lead lead s))
 
 -- "bit 7 is 0, the mask is not 0 and holds the box itself"
 unfoldable pub is-membership : ℕ → ℕ → Bool
-is-membership me members = is-box me && ltb members 128 && holds members me
+is-membership me members = is-box me && ltb members masks && holds members me
 
 -- "vote, 0 or a member"
 unfoldable pub is-vote : ℕ → ℕ → Bool

@@ -6,7 +6,7 @@ use mathlib.Core.Bool.{Bool, true, _&&_}
 use lib.Dec.{eqb, ltb, leb}
 use borrow.Author.Tests.{eqb-true, ltb-true, leb-true, le-leb, ne-eqb}
 use Rattle.digits.specs.Tests.{and-left, and-right}
-use Rattle.frames.specs.Limits.{boxes, log-limit}
+use Rattle.frames.specs.Limits.{boxes, masks, log-limit}
 use Rattle.frames.specs.Rules.{is-box, in-order}
 use Rattle.frames.specs.Clauses.{four}
 use Rattle.raft.specs.Majority.{holds}
@@ -94,14 +94,14 @@ facts-good s g =
 pub record Member (me members : ℕ) : Type 0 where
   pub least : 1 ≤ me
   pub most : me ≤ boxes
-  pub mask : members < 128
+  pub mask : members < masks
   pub held : holds members me ≡ true
 
 -- The rule says this.
 pub member-facts : (me members : ℕ) → is-membership me members ≡ true → Member me members
 unfolding is-membership
 member-facts me members h =
-    let m = four true (is-box me) (ltb members 128) (holds members me) h in
+    let m = four true (is-box me) (ltb members masks) (holds members me) h in
     record { least = box-range me (m .1) .0; most = box-range me (m .1) .1; mask = ltb-true _ _ (m .2); held = m .3 }
 
 -- A candidate or leader has voted for itself, in a term of at least 1.

@@ -135,13 +135,13 @@ to-others-all P s message each i (suc n) l h =
 pub vote-requests-all : (P : Message → Type 0) (s : State)
     → ((i : ℕ) → 1 ≤ i → i ≤ boxes → is-other (s .me) (s .members) i ≡ true → P (vote-request-to s i)) → All P (vote-requests s)
 unfolding vote-requests
-vote-requests-all P s each = to-others-all P s (vote-request-to s) each 1 7 (omega arith) (omega arith)
+vote-requests-all P s each = to-others-all P s (vote-request-to s) each 1 boxes (omega arith) (omega arith)
 
 -- and of all appends
 pub appends-all : (P : Message → Type 0) (s : State)
     → ((i : ℕ) → 1 ≤ i → i ≤ boxes → is-other (s .me) (s .members) i ≡ true → P (append-to s i)) → All P (appends s)
 unfolding appends
-appends-all P s each = to-others-all P s (append-to s) each 1 7 (omega arith) (omega arith)
+appends-all P s each = to-others-all P s (append-to s) each 1 boxes (omega arith) (omega arith)
 
 -- Every message of a list obeys the rules.
 abbrev pub Obey : List Message → Type 0

@@ -3,7 +3,7 @@ use Prim.Native.Nat.{ℕ, zero, suc, _+_, _-_}
 use mathlib.Core.Bool.{Bool, cond}
 use mathlib.Core.List.{List, [], _∷_, _++_}
 use lib.ListN.{length, take, drop}
-use Rattle.frames.specs.Limits.{entry-limit}
+use Rattle.frames.specs.Limits.{boxes, entry-limit}
 use Rattle.frames.specs.Message.{Message, vote-request, append, text}
 use Rattle.raft.specs.Record.{State, last-index, last-term, term-at, of-box, is-other}
 
@@ -25,10 +25,10 @@ to-others s message i zero = []
 to-others s message i (suc n) = cond (is-other (s .me) (s .members) i) (message i ∷ to-others s message (suc i) n) (to-others s message (suc i) n)
 
 unfoldable pub vote-requests : State → List Message
-vote-requests s = to-others s (vote-request-to s) 1 7
+vote-requests s = to-others s (vote-request-to s) 1 boxes
 
 unfoldable pub appends : State → List Message
-appends s = to-others s (append-to s) 1 7
+appends s = to-others s (append-to s) 1 boxes
 
 -- The bytes of messages, one behind the other.
 unfoldable pub texts : List Message → List ℕ

@@ -9,7 +9,7 @@ use lib.ListN.{length-append}
 use borrow.Author.Tests.{eqb-true, eqb-false, leb-true, leb-false, le-leb, lt-ltb, eq-eqb, ne-eqb}
 use Rattle.digits.specs.Tests.{and-left, and-right, or-right, each-below, at-each}
 use Rattle.frames.specs.declared.Entry.{Entry}
-use Rattle.frames.specs.Limits.{boxes, log-limit}
+use Rattle.frames.specs.Limits.{boxes, masks, log-limit}
 use Rattle.frames.specs.Message.{Message}
 use Rattle.frames.specs.Rules.{in-order}
 use Rattle.frames.specs.Clauses.{four}
@@ -84,8 +84,8 @@ unfolding holds
 own-bit zero members m = absurd (omega arith)
 own-bit (suc j) members m =
     or-right (holds members (suc j)) _ (m .held)
-    (at-each (own-bit-test members) 7
-    (at-each (λ mask. each-below (own-bit-test mask) 7) 128 refl members (m .mask)) j (omega arith))
+    (at-each (own-bit-test members) boxes
+    (at-each (λ mask. each-below (own-bit-test mask) boxes) masks refl members (m .mask)) j (omega arith))
 
 -- ---- next and match
 

@@ -7,7 +7,7 @@ use lib.Dec.{eqb}
 use lib.ListN.{length}
 use Rattle.frames.specs.declared.Entry.{Entry}
 use Rattle.frames.specs.Fields.{listed}
-use Rattle.frames.specs.Limits.{IsBox, log-limit}
+use Rattle.frames.specs.Limits.{IsBox, log-limit, entry-limit}
 use Rattle.frames.specs.Message.{Message, vote-answer, append-answer}
 use Rattle.record.specs.declared.Record.{Record}
 use Rattle.record.specs.declared.Send.{Send}
@@ -62,7 +62,7 @@ pub record Decides (last : ℕ) (d : Decision) (offered : List Entry) (terms ord
   pub comes : decided d offered terms orders ≡ o
   pub low : d .kept ≤ last
   pub part : d .first ≤ d .count
-  pub few : d .count ≤ 4
+  pub few : d .count ≤ entry-limit
   pub there : d .first ≤ d .kept
   pub sum : d .next .last ≡ d .kept + (d .count - d .first)
   pub room : d .next .last ≤ log-limit

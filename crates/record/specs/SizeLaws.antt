@@ -13,6 +13,7 @@ use Rattle.digits.specs.Room.{over}
 use Rattle.digits.specs.RoomLaws.{over-over}
 pub use Rattle.digits.specs.RoomLaws.{over-nothing}
 use Rattle.frames.specs.declared.Entry.{Entry}
+use Rattle.frames.specs.Limits.{boxes, entry-limit, longest-message}
 use Rattle.frames.specs.Message.{Message, vote-request, vote-answer, append, append-answer, entry-fields, spell, text}
 use Rattle.frames.specs.Reading.{size}
 use Rattle.frames.specs.WritingLaws.{length-text, chars, chars-entries, entry-fields-append, put-more}
@@ -178,7 +179,7 @@ others-long b log m size e (suc k) =
 -- An append is as long as the struct says,
 pub append-to-long : (b : Record) (terms orders : List ℕ) (i : ℕ) → length (text (append-to (state-of b terms orders) i)) ≡ append-size b i
 append-to-long b terms orders i =
-    append-long _ _ _ _ _ _ (take 4 (drop (previous b i) (entries-of terms orders 0 (b .last))))
+    append-long _ _ _ _ _ _ (take entry-limit (drop (previous b i) (entries-of terms orders 0 (b .last))))
     ∙ rw (length-take, length-drop, length-entries-of terms orders 0 (b .last))
 
 -- and so are a step's messages.
@@ -186,9 +187,9 @@ pub sent-long : (send : Send) (b : Record) (terms orders : List ℕ) → sent-si
 unfolding sent-size messages-of vote-requests appends texts others-to
 sent-long Send.Nothing b terms orders = refl
 sent-long Send.Requests b terms orders =
-    sym (others-long b (entries-of terms orders 0 (b .last)) (vote-request-to (state-of b terms orders)) request-size (λ i. request-long _ _ _ _ _) 7)
+    sym (others-long b (entries-of terms orders 0 (b .last)) (vote-request-to (state-of b terms orders)) request-size (λ i. request-long _ _ _ _ _) boxes)
 sent-long Send.Appends b terms orders =
-    sym (others-long b (entries-of terms orders 0 (b .last)) (append-to (state-of b terms orders)) (append-size b) (append-to-long b terms orders) 7)
+    sym (others-long b (entries-of terms orders 0 (b .last)) (append-to (state-of b terms orders)) (append-size b) (append-to-long b terms orders) boxes)
 sent-long (Send.Append to) b terms orders = sym (ap length (texts-one _) ∙ append-to-long b terms orders to)
 sent-long (Send.VoteAnswer to reply) b terms orders = sym (vote-answer-long _ _ _ _)
 sent-long (Send.AppendAnswer to reply index) b terms orders = sym (append-answer-long _ _ _ _ _)
@@ -196,8 +197,8 @@ sent-long (Send.AppendAnswer to reply index) b terms orders = sym (append-answer
 -- ---- an append's entries
 
 -- an append carries the lent log's entries from a place on
-carried : (terms orders : List ℕ) (p last : ℕ) → entries-of terms orders p (entry-count last p) ≡ take 4 (drop p (entries-of terms orders 0 last))
-carried terms orders p last = sym (rw (drop-entries terms orders 0 last p, zero-add, take-entries terms orders p (last - p) 4))
+carried : (terms orders : List ℕ) (p last : ℕ) → entries-of terms orders p (entry-count last p) ≡ take entry-limit (drop p (entries-of terms orders 0 last))
+carried terms orders p last = sym (rw (drop-entries terms orders 0 last p, zero-add, take-entries terms orders p (last - p) entry-limit))
 
 -- their characters
 pub chars-logged : (terms orders : List ℕ) (p n : ℕ) → chars (entry-fields (entries-of terms orders p n)) ≡ 24 * n
@@ -238,14 +239,14 @@ others-same b log more m i (suc n) = rw (others-same b log more m (suc i) n)
 
 -- what the code writes are the vote requests
 pub asked : (b : Record) (terms orders : List ℕ) (t : ℕ) → t ≡ term-at (entries-of terms orders 0 (b .last)) (b .last)
-    → others-to (with-entries b []) (asks b t) 7 ≡ texts (vote-requests (state-of b terms orders))
+    → others-to (with-entries b []) (asks b t) boxes ≡ texts (vote-requests (state-of b terms orders))
 unfolding others-to vote-requests texts to-others
 asked b terms orders t e =
-    ap texts (others-same b [] (entries-of terms orders 0 (b .last)) (asks b t) 1 7)
+    ap texts (others-same b [] (entries-of terms orders 0 (b .last)) (asks b t) 1 boxes)
     ∙ rw (e, length-entries-of terms orders 0 (b .last))
 
 -- and all appends are those to seven boxes
-pub all-appends : (s : State) → others-to s (append-to s) 7 ≡ texts (appends s)
+pub all-appends : (s : State) → others-to s (append-to s) boxes ≡ texts (appends s)
 unfolding others-to appends
 all-appends s = refl
 
@@ -273,20 +274,20 @@ shares-within b size k (suc n) h = go (decLe k n) (shares-within b size k n)
     go (yes l) below = omega (arith, below l)
     go (no l) below = let same : k ≡ suc n = omega arith in rw same (omega arith)
 
--- What a loop over the boxes has summed before box i, where no box has more than 131.
+-- What a loop over the boxes has summed before box i, where no box has more than the longest message.
 pub record Summed (b : Record) (size : ℕ → ℕ) (sum i : ℕ) : Type 0 where
   pub least : 1 ≤ i
-  pub within : i ≤ 8
+  pub within : i ≤ boxes + 1
   pub is : sum ≡ shares b size (i - 1)
-  pub low : sum ≤ 131 * (i - 1)
+  pub low : sum ≤ longest-message * (i - 1)
 
 pub sum-first : (b : Record) (size : ℕ → ℕ) → Summed b size 0 1
 sum-first b size = record { least = omega arith; within = omega arith; is = sym (shares-none b size); low = omega arith }
 
-pub sum-last : {b : Record} {size : ℕ → ℕ} {sum i : ℕ} → Summed b size sum i → 7 < i → sum ≡ shares b size 7
-sum-last {b} {size} {i = i} t h = let all : i - 1 ≡ 7 = omega arith in t .is ∙ ap (shares b size) all
+pub sum-last : {b : Record} {size : ℕ → ℕ} {sum i : ℕ} → Summed b size sum i → boxes < i → sum ≡ shares b size boxes
+sum-last {b} {size} {i = i} t h = let all : i - 1 ≡ boxes = omega arith in t .is ∙ ap (shares b size) all
 
-pub sum-next : {b : Record} {size : ℕ → ℕ} {sum i : ℕ} → Summed b size sum i → i ≤ 7 → (more : ℕ) → more ≡ share b size i → more ≤ 131
+pub sum-next : {b : Record} {size : ℕ → ℕ} {sum i : ℕ} → Summed b size sum i → i ≤ boxes → (more : ℕ) → more ≡ share b size i → more ≤ longest-message
     → Summed b size (sum + more) (i + 1)
 sum-next {b} {size} {sum} {i} t h more e l =
     record { least = omega arith; within = omega arith; is = omega (arith, shares-turn b size i (t .least), t .is); low = omega (arith, t .low, t .least) }
@@ -294,7 +295,7 @@ sum-next {b} {size} {sum} {i} t h more e l =
 -- What it has written: the boxes before i have theirs.
 pub record Filled (b : Record) (log : List Entry) (m : ℕ → Message) (size : ℕ → ℕ) (room₀ room : List ℕ) (at i : ℕ) : Type 0 where
   pub least : 1 ≤ i
-  pub within : i ≤ 8
+  pub within : i ≤ boxes + 1
   pub place : at ≡ shares b size (i - 1)
   pub long : length room ≡ length room₀
   pub text : room ≡ over room₀ 0 (others-to (with-entries b log) m (i - 1))
@@ -312,22 +313,22 @@ module _ (b : Record) (log : List Entry) (m : ℕ → Message) (size : ℕ → �
       }
 
   -- at the end all,
-  pub fill-last : {room₀ room : List ℕ} {at i : ℕ} → Filled b log m size room₀ room at i → 7 < i
-      → room ≡ over room₀ 0 (others-to (with-entries b log) m 7)
+  pub fill-last : {room₀ room : List ℕ} {at i : ℕ} → Filled b log m size room₀ room at i → boxes < i
+      → room ≡ over room₀ 0 (others-to (with-entries b log) m boxes)
   fill-last {room₀} {i = i} t h =
-      let all : i - 1 ≡ 7 = omega arith in
+      let all : i - 1 ≡ boxes = omega arith in
       t .text ∙ ap (λ (k : ℕ). over room₀ 0 (others-to (with-entries b log) m k)) all
 
   -- box i's share fits where all do,
-  pub fill-fits : {room₀ room : List ℕ} {at i : ℕ} → Filled b log m size room₀ room at i → i ≤ 7 → shares b size 7 ≤ length room₀
+  pub fill-fits : {room₀ room : List ℕ} {at i : ℕ} → Filled b log m size room₀ room at i → i ≤ boxes → shares b size boxes ≤ length room₀
       → at + share b size i ≤ length room
   fill-fits {i = i} t h r =
       let here : i + 1 - 1 ≡ i = omega arith in
-      omega (arith, shares-turn b size i (t .least), shares-within b size (i + 1 - 1) 7 (omega arith), t .place, t .long)
+      omega (arith, shares-turn b size i (t .least), shares-within b size (i + 1 - 1) boxes (omega arith), t .place, t .long)
 
   -- and box i gets its behind those before it.
-  pub fill-next : ((i : ℕ) → length (text (m i)) ≡ size i) → {room₀ room room' : List ℕ} {at at' i : ℕ} → Filled b log m size room₀ room at i → i ≤ 7
-      → shares b size 7 ≤ length room₀ → at' ≡ at + share b size i → length room' ≡ length room
+  pub fill-next : ((i : ℕ) → length (text (m i)) ≡ size i) → {room₀ room room' : List ℕ} {at at' i : ℕ} → Filled b log m size room₀ room at i → i ≤ boxes
+      → shares b size boxes ≤ length room₀ → at' ≡ at + share b size i → length room' ≡ length room
       → room' ≡ over room at (texts (only (with-entries b log) m i)) → Filled b log m size room₀ room' at' (i + 1)
   fill-next e {room₀} {room} {room'} {at} {at'} {i} t h r a l q =
       record {
@@ -341,7 +342,7 @@ module _ (b : Record) (log : List Entry) (m : ℕ → Message) (size : ℕ → �
       s : State
       s = with-entries b log
 
-      go : (i : ℕ) → Filled b log m size room₀ room at i → i ≤ 7 → room' ≡ over room at (texts (only s m i)) → room' ≡ over room₀ 0 (others-to s m (i + 1 - 1))
+      go : (i : ℕ) → Filled b log m size room₀ room at i → i ≤ boxes → room' ≡ over room at (texts (only s m i)) → room' ≡ over room₀ 0 (others-to s m (i + 1 - 1))
       go zero t h q = absurd (omega (arith, t .least))
       go (suc k) t h q =
           let here : suc k + 1 - 1 ≡ k + 1 = omega arith in
@@ -351,8 +352,8 @@ module _ (b : Record) (log : List Entry) (m : ℕ → Message) (size : ℕ → �
           (t .place ∙ rw before (sym (others-long b log m size e k)))
           (omega (
             arith,
-            others-long b log m size e 7,
-            others-within s m (k + 1) 7 (omega arith),
+            others-long b log m size e boxes,
+            others-within s m (k + 1) boxes (omega arith),
             ap length (others-more s m k),
             length-append (others-to s m k) (texts (only s m (k + 1))),
             r,

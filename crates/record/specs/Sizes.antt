@@ -5,7 +5,7 @@ use mathlib.Core.Bool.{Bool, true, cond, _&&_}
 use mathlib.Core.List.{List, [], _∷_}
 use lib.Dec.{eqb, leb}
 use lib.ListN.{length}
-use Rattle.frames.specs.Limits.{IsBox}
+use Rattle.frames.specs.Limits.{boxes, IsBox, entry-limit}
 use Rattle.record.specs.declared.Record.{Record}
 use Rattle.record.specs.declared.Send.{Send}
 use Rattle.record.specs.declared.Decision.{Decision}
@@ -57,15 +57,15 @@ abbrev pub previous : Record → ℕ → ℕ
 previous b i = of-box (b .lead .next) i - 1
 
 abbrev pub entry-count : ℕ → ℕ → ℕ
-entry-count last previous = min 4 (last - previous)
+entry-count last previous = min entry-limit (last - previous)
 
 abbrev pub append-size : Record → ℕ → ℕ
 append-size b i = 35 + 24 * entry-count (b .last) (previous b i)
 
 unfoldable pub sent-size : Send → Record → ℕ
 sent-size Send.Nothing b = 0
-sent-size Send.Requests b = shares b request-size 7
-sent-size Send.Appends b = shares b (append-size b) 7
+sent-size Send.Requests b = shares b request-size boxes
+sent-size Send.Appends b = shares b (append-size b) boxes
 sent-size (Send.Append to) b = append-size b to
 sent-size (Send.VoteAnswer to reply) b = 19
 sent-size (Send.AppendAnswer to reply index) b = 23
@@ -75,7 +75,7 @@ sent-size (Send.AppendAnswer to reply index) b = 23
 -- A record whose line can be written: its log is lent, and at most four entries of it stand behind those that were kept.
 pub record Tellable (next : Record) (kept : ℕ) (terms orders : List ℕ) : Type 0 where
   pub low : kept ≤ next .last
-  pub few : next .last - kept ≤ 4
+  pub few : next .last - kept ≤ entry-limit
   pub in-terms : next .last ≤ length terms
   pub in-orders : next .last ≤ length orders
 

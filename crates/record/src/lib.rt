@@ -1,10 +1,26 @@
-// 01's record as structs, what an event decides of it, and what a step answers. Nothing to run here: `specs/` says what they mean.
+// 01's record as structs, its constructor, what an event decides of it, and what a step answers: `specs/` says what they mean.
 use frames::Fields;
+ghost use mathlib.Core.Path.{_≡_};
+ghost use Rattle.raft.specs.Record.{zeros, fresh};
+ghost use Rattle.record.specs.Calls.{record-of};
 
 // What a leader alone has: next and match for each box, box i's at place i-1.
 pub struct Lead {
     pub next: [u16; Record::BOXES],
     pub matched: [u16; Record::BOXES],
+}
+
+impl Lead {
+    // "Next and match are 0 unless leader": what everybody else has.
+    pub fn none() -> Lead
+        ensures { λ r. ⌜ r ≡ record { next = zeros; matched = zeros } ⌝ }
+    {
+        let none = [0u16; Record::BOXES];
+        Lead {
+            next: none,
+            matched: none,
+        }
+    }
 }
 
 // The box's record, but for its log, which the caller lends: `last` counts its entries. What is read by itself comes first and what is only
@@ -38,6 +54,24 @@ impl Record {
     pub const CANDIDATE: u8 = 1;
 
     pub const LEADER: u8 = 2;
+
+    // "A fresh box stands in term 0, has voted for nobody, has an empty log and is a follower." Nowhere else is a record made from nothing.
+    pub fn fresh(me: u8, members: u8) -> Record
+        ensures { λ r. ⌜ r ≡ record-of (fresh me members) ⌝ }
+    {
+        let lead = Lead::none();
+        Record {
+            me,
+            members,
+            term: 0,
+            vote: 0,
+            last: 0,
+            commit: 0,
+            role: Record::FOLLOWER,
+            votes: 0,
+            lead,
+        }
+    }
 }
 
 // What a step sends. An answer's reply is 1, yes, or 0, no.

@@ -5,6 +5,7 @@ ghost use Prim.Native.Nat.{_≤_};
 ghost use mathlib.Core.Path.{_≡_};
 ghost use lib.ListN.{length};
 ghost use Rattle.frames.specs.Limits.{log-limit};
+ghost use Rattle.printing.specs.Putting.{shown-most};
 
 // What the lines behind the head came to: 0, or 10 and how many were good before; the record, and their bytes.
 struct Ended {
@@ -80,7 +81,7 @@ fn show(
     output: &mut [u8],
 )
     requires { ⌜ n .last ≤ log-limit ⌝ }
-    requires { ⌜ 6484 ≤ length (now output) ⌝ }
+    requires { ⌜ shown-most ≤ length (now output) ⌝ }
 {
     let text = printing::show(
         n,
@@ -95,7 +96,7 @@ fn show(
 // The journal behind the first line.
 fn open(me: u8, input: &mut [u8], filled: usize, output: &mut [u8])
     requires { ⌜ filled ≤ length (now input) ⌝ }
-    requires { ⌜ 6484 ≤ length (now output) ⌝ }
+    requires { ⌜ shown-most ≤ length (now output) ⌝ }
 {
     let head = reader::whole_line(input, filled);
     let opened = opening::replay_head(me, &input[..head.end]);
@@ -117,7 +118,7 @@ fn open(me: u8, input: &mut [u8], filled: usize, output: &mut [u8])
 }
 
 fn run(input: &mut [u8], output: &mut [u8])
-    requires { ⌜ 6484 ≤ length (now output) ⌝ }
+    requires { ⌜ shown-most ≤ length (now output) ⌝ }
 {
     let first = reader::whole_line(input, 0);
     let me = printing::asked(&input[..first.end]);

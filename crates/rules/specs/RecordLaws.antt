@@ -11,14 +11,15 @@ use lib.ListN.{getD}
 use borrow.Author.Tests.{eqb-true, ne-eqb, leb-true, le-leb}
 use Rattle.digits.specs.Tests.{at-each, and-left, and-right}
 use Rattle.frames.specs.declared.Entry.{Entry}
+use Rattle.frames.specs.Limits.{boxes}
 use Rattle.frames.specs.Rules.{in-order}
 use Rattle.raft.specs.Majority.{bit}
 use Rattle.raft.specs.Lent.{entries-of}
 use Rattle.raft.specs.LentLaws.{entries-more}
 
 -- the bit of a box, as a shift makes it
-pub bit-shift : (i : ℕ) → i ≤ 7 → 1 * 2 ^ (i - 1) % 256 ≡ bit i
-bit-shift i h = eqb-true _ _ (at-each (λ k. eqb (1 * 2 ^ (k - 1) % 256) (bit k)) 8 refl i (omega arith))
+pub bit-shift : (i : ℕ) → i ≤ boxes → 1 * 2 ^ (i - 1) % 256 ≡ bit i
+bit-shift i h = eqb-true _ _ (at-each (λ k. eqb (1 * 2 ^ (k - 1) % 256) (bit k)) (suc boxes) refl i (omega arith))
 
 -- the term of the last entry, or what stood before all of them
 unfoldable pub final : ℕ → List Entry → ℕ

@@ -7,7 +7,7 @@ ghost use Prim.Native.Nat.{ℕ, _+_, _-_, _≤_};
 ghost use lib.Dec.{ltb};
 ghost use lib.ListN.{length};
 ghost use Rattle.digits.specs.Room.{over};
-ghost use Rattle.frames.specs.Limits.{log-limit};
+ghost use Rattle.frames.specs.Limits.{log-limit, entry-limit};
 ghost use Rattle.frames.specs.Fields.{listed};
 ghost use Rattle.raft.specs.Record.{term-at};
 ghost use Rattle.raft.specs.Lent.{entries-of, terms-of, orders-of};
@@ -47,7 +47,7 @@ pub fn search(
     count: usize,
 ) -> usize
     requires { ⌜ last ≤ length (now terms) ⌝ }
-    requires { ⌜ count ≤ 4 ⌝ }
+    requires { ⌜ count ≤ entry-limit ⌝ }
     requires { ⌜ index ≤ last ⌝ }
     ensures { λ r. ⌜ ((orders : List ℕ) → r ≡ stop (entries-of (now (terms .entry)) orders 0 last) index (listed entries 0 count)) ⌝ }
     ensures { λ r. ⌜ r ≤ index + count ⌝ }
@@ -84,7 +84,7 @@ pub fn store(
     first: usize,
     count: usize,
 )
-    requires { ⌜ count ≤ 4 ⌝ }
+    requires { ⌜ count ≤ entry-limit ⌝ }
     requires { ⌜ first ≤ count ⌝ }
     requires { ⌜ index + count ≤ length (now terms) ⌝ }
     requires { ⌜ index + count ≤ length (now orders) ⌝ }

@@ -1,11 +1,12 @@
 // The record's rules that look at a few numbers or at the lent terms alone, in 01's order.
 use crate::mask::holds;
+use frames::Fields;
 use frames::is_box;
 ghost use mathlib.Core.Path.{_≡_};
 ghost use mathlib.Core.List.{[]};
 ghost use Prim.Native.Nat.{_≤_};
 ghost use lib.ListN.{length};
-ghost use Rattle.frames.specs.Limits.{log-limit};
+ghost use Rattle.frames.specs.Limits.{boxes, log-limit};
 ghost use Rattle.frames.specs.Rules.{in-order};
 ghost use Rattle.raft.specs.Record.{is-membership, is-vote, is-role, are-votes, is-progress};
 ghost use Rattle.raft.specs.Lent.{entries-of};
@@ -15,7 +16,7 @@ pub fn is_membership(me: u8, members: u8) -> bool
     ensures { λ r. ⌜ r ≡ is-membership me members ⌝ }
 {
     if is_box(me) {
-        return (members < 128) & holds(members, me);
+        return (members < Fields::MASKS) & holds(members, me);
     }
     false
 }
@@ -43,7 +44,7 @@ pub fn is_role(role: u8, term: u32, vote: u8, me: u8) -> bool
 // "Votes are 0 unless candidate, then members with itself among them."
 pub fn are_votes(role: u8, votes: u8, members: u8, me: u8) -> bool
     requires { ⌜ 1 ≤ me ⌝ }
-    requires { ⌜ me ≤ 7 ⌝ }
+    requires { ⌜ me ≤ boxes ⌝ }
     ensures { λ r. ⌜ r ≡ are-votes role votes members me ⌝ }
 {
     if role == 1 {

@@ -6,6 +6,7 @@ use native.Mathlib.Omega.{arith}
 use mathlib.Core.Path.{_≡_, sym}
 use mathlib.Core.Bool.{false}
 use mathlib.Core.List.{List, [], _∷_}
+use Rattle.frames.specs.Limits.{masks}
 use Rattle.frames.specs.Message.{Message}
 use Rattle.raft.specs.Record.{State}
 use Rattle.raft.specs.RecordLaws.{Good, member-facts}
@@ -41,7 +42,7 @@ pub record Next (mask i : ℕ) (h : History) (t : State) (messages : List Messag
   pub tells : All (Tells (fixed mask) history) messages
 
 -- The membership is a mask of seven bits.
-pub known-small : {h : History} {s : State} → Known h s → s .members < 128
+pub known-small : {h : History} {s : State} → Known h s → s .members < masks
 known-small k = member-facts _ _ (k .whole .membership) .mask
 
 -- A move behind what the box has done before.

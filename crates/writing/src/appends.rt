@@ -8,7 +8,7 @@ ghost use mathlib.Core.Path.{_≡_};
 ghost use Prim.Native.Nat.{_+_, _-_, _*_, _≤_};
 ghost use lib.ListN.{length};
 ghost use Rattle.digits.specs.Room.{over};
-ghost use Rattle.frames.specs.Limits.{IsBox};
+ghost use Rattle.frames.specs.Limits.{IsBox, boxes, entry-limit, longest-message};
 ghost use Rattle.frames.specs.Message.{append, text};
 ghost use Rattle.raft.specs.Sends.{append-to, texts, appends};
 ghost use Rattle.raft.specs.Lent.{entries-of};
@@ -30,17 +30,20 @@ fn previous(n: Record, i: u8) -> u16
     next - 1
 }
 
+// 01's limit of entries, as a count.
+const MOST: u8 = Fields::ENTRIES as u8;
+
 // "up to 4 entries from next on"
 fn entry_count(last: u16, previous: u16) -> u8
     ensures { λ r. ⌜ r ≡ entry-count last previous ⌝ }
-    ensures { λ r. ⌜ r ≤ 4 ⌝ }
+    ensures { λ r. ⌜ r ≤ entry-limit ⌝ }
 {
     if last <= previous {
         return 0;
     }
     let left = last - previous;
-    if 4 <= left {
-        return 4;
+    if MOST as u16 <= left {
+        return MOST;
     }
     (left % 256) as u8
 }
@@ -49,7 +52,7 @@ fn entry_count(last: u16, previous: u16) -> u8
 pub fn append_size(n: Record, i: u8) -> usize
     requires { ⌜ IsBox i ⌝ }
     ensures { λ r. ⌜ r ≡ append-size n i ⌝ }
-    ensures { λ r. ⌜ r ≤ 131 ⌝ }
+    ensures { λ r. ⌜ r ≤ longest-message ⌝ }
 {
     35 + 24 * entry_count(n.last, previous(n, i)) as usize
 }
@@ -58,7 +61,7 @@ pub fn append_size(n: Record, i: u8) -> usize
 fn append_share(n: Record, i: u8) -> usize
     requires { ⌜ IsBox i ⌝ }
     ensures { λ r. ⌜ r ≡ share n (append-size n) i ⌝ }
-    ensures { λ r. ⌜ r ≤ 131 ⌝ }
+    ensures { λ r. ⌜ r ≤ longest-message ⌝ }
 {
     if is_other(n.me, n.members, i) {
         return append_size(n, i);
@@ -68,7 +71,7 @@ fn append_share(n: Record, i: u8) -> usize
 
 // The bytes of all appends.
 pub fn appends_size(n: Record) -> usize
-    ensures { λ r. ⌜ r ≡ shares n (append-size n) 7 ⌝ }
+    ensures { λ r. ⌜ r ≡ shares n (append-size n) boxes ⌝ }
 {
     let mut size = 0;
     let mut i = 1;
@@ -151,7 +154,7 @@ fn put_append_at(
 // An append to each other member.
 pub fn put_appends(room: &mut [u8], n: Record, terms: &[u32], orders: &[u64])
     requires { ⌜ Sendable n (now terms) (now orders) ⌝ }
-    requires { ⌜ shares n (append-size n) 7 ≤ length (now room) ⌝ }
+    requires { ⌜ shares n (append-size n) boxes ≤ length (now room) ⌝ }
     ensures { λ _. ⌜ now (room .exit) ≡ over (now (room .entry)) 0
         (texts (appends (state-of n (now (terms .entry)) (now (orders .entry))))) ⌝ }
 {

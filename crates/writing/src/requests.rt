@@ -7,7 +7,7 @@ ghost use mathlib.Core.List.{List, []};
 ghost use Prim.Native.Nat.{ℕ, _+_, _≤_};
 ghost use lib.ListN.{length};
 ghost use Rattle.digits.specs.Room.{over};
-ghost use Rattle.frames.specs.Limits.{IsBox};
+ghost use Rattle.frames.specs.Limits.{boxes, IsBox};
 ghost use Rattle.raft.specs.Sends.{texts};
 ghost use Rattle.record.specs.Calls.{with-entries};
 ghost use Rattle.record.specs.Sizes.{share, shares, request-size};
@@ -27,7 +27,7 @@ fn request_share(n: Record, i: u8) -> usize
 
 // The bytes of all vote requests.
 pub fn requests_size(n: Record) -> usize
-    ensures { λ r. ⌜ r ≡ shares n request-size 7 ⌝ }
+    ensures { λ r. ⌜ r ≡ shares n request-size boxes ⌝ }
 {
     let mut size = 0;
     let mut i = 1;
@@ -54,8 +54,8 @@ fn put_request(room: &mut [u8], at: usize, n: Record, last_term: u32, i: u8) -> 
 
 // A request to each other member; the last entry's term is found by the caller.
 pub fn put_requests(room: &mut [u8], n: Record, last_term: u32)
-    requires { ⌜ shares n request-size 7 ≤ length (now room) ⌝ }
-    ensures { λ _. ⌜ now (room .exit) ≡ over (now (room .entry)) 0 (others-to (with-entries n []) (asks n «last_term») 7) ⌝ }
+    requires { ⌜ shares n request-size boxes ≤ length (now room) ⌝ }
+    ensures { λ _. ⌜ now (room .exit) ≡ over (now (room .entry)) 0 (others-to (with-entries n []) (asks n «last_term») boxes) ⌝ }
 {
     let mut at = 0;
     let mut i = 1;

@@ -11,15 +11,15 @@ add-r c = search needs
 bit-requires : tie.Need-bit-requires
 bit-requires c κs = search needs
 
-no-lead-requires : tie.Need-no-lead-requires
-no-lead-requires c κs = search needs
+none-requires : tie.Need-none-requires
+none-requires c κs = search needs
 
 returns : tie.Need-returns
 unfolding standing
 returns c =
     let bit = c .before .bit in
-    let no-lead = c .no-lead in
-    record { state = λ log h. rw (no-lead .ensures, bit .ensures); last = refl }
+    let none = c .none in
+    record { state = λ log h. rw (none .ensures, bit .ensures); last = refl }
 
 pub standing-spec : {M : Type 1} → statement M
-standing-spec = tie.close (tie.spec add-r bit-requires no-lead-requires returns)
+standing-spec = tie.close (tie.spec add-r bit-requires none-requires returns)

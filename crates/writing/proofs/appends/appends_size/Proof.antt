@@ -1,7 +1,8 @@
 -- The shares of the boxes before i, one more at each turn.
 use borrow.Author.Needs.{needs}
 use native.Mathlib.Omega.{arith}
-use Prim.Native.Nat.{_-_}
+use Prim.Native.Nat.{_+_, _-_}
+use Rattle.frames.specs.Limits.{boxes}
 use Rattle.record.specs.Sizes.{append-size}
 use Rattle.record.specs.SizeLaws.{Summed, sum-first, sum-next, sum-last}
 use Rattle.writing.proofs.appends.appends_size.Statement.{statement}
@@ -11,7 +12,7 @@ abbrev Inv-loop : tie.InvT-loop
 Inv-loop n size₀ i₀ size i = Summed n (append-size n) size i
 
 abbrev μ-loop : tie.MeasureT-loop
-μ-loop n size₀ i₀ size i = 8 - i
+μ-loop n size₀ i₀ size i = boxes + 1 - i
 
 loop-holds : tie.Need-loop-holds Inv-loop μ-loop
 loop-holds c = sum-first _ _

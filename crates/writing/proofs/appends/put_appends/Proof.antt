@@ -1,9 +1,10 @@
 -- The boxes before i have their appends, and box i gets its behind them (`fill-next`).
 use borrow.Author.Needs.{needs}
 use native.Mathlib.Omega.{arith}
-use Prim.Native.Nat.{_-_}
+use Prim.Native.Nat.{_+_, _-_}
 use mathlib.Core.Path.{ap, _∙_}
 use Rattle.digits.specs.Room.{over}
+use Rattle.frames.specs.Limits.{boxes}
 use Rattle.raft.specs.Sends.{append-to}
 use Rattle.record.specs.Calls.{entries-of, state-of}
 use Rattle.record.specs.Sizes.{append-size}
@@ -15,7 +16,7 @@ abbrev Inv-loop : tie.InvT-loop
 Inv-loop room₀ n terms orders at₀ i₀ room at i = Filled n (entries-of terms orders 0 (n .last)) (append-to (state-of n terms orders)) (append-size n) room₀ room at i
 
 abbrev μ-loop : tie.MeasureT-loop
-μ-loop room₀ n terms orders at₀ i₀ room at i = 8 - i
+μ-loop room₀ n terms orders at₀ i₀ room at i = boxes + 1 - i
 
 loop-holds : tie.Need-loop-holds Inv-loop μ-loop
 loop-holds c = fill-first _ _ _ _ _

@@ -1,8 +1,9 @@
 -- The boxes before i have their requests, and box i gets its behind them (`fill-next`).
 use borrow.Author.Needs.{needs}
 use native.Mathlib.Omega.{arith}
-use Prim.Native.Nat.{_-_}
+use Prim.Native.Nat.{_+_, _-_}
 use mathlib.Core.List.{[]}
+use Rattle.frames.specs.Limits.{boxes}
 use Rattle.record.specs.Sizes.{request-size}
 use Rattle.record.specs.SizeLaws.{asks, request-long, Filled, fill-first, fill-fits, fill-next, fill-last}
 use Rattle.writing.proofs.requests.put_requests.Statement.{statement}
@@ -12,7 +13,7 @@ abbrev Inv-loop : tie.InvT-loop
 Inv-loop room₀ n last-term at₀ i₀ room at i = Filled n [] (asks n last-term) request-size room₀ room at i
 
 abbrev μ-loop : tie.MeasureT-loop
-μ-loop room₀ n last-term at₀ i₀ room at i = 8 - i
+μ-loop room₀ n last-term at₀ i₀ room at i = boxes + 1 - i
 
 loop-holds : tie.Need-loop-holds Inv-loop μ-loop
 loop-holds c = fill-first _ _ _ _ _
