@@ -10,3 +10,4 @@ pub mod ChangeLaws
 pub mod SameLaws
 pub mod ExactlyWhen
 pub mod ExactlyWhenLaws
+pub mod NextRecord
