@@ -6,7 +6,6 @@ use mathlib.Core.Bool.{Bool, true, false, cond}
 use mathlib.Core.List.{List}
 use lib.ListN.{length}
 use borrow.Author.Tests.{le-leb}
-use Rattle.digits.specs.Room.{over}
 use Rattle.digits.specs.RoomLaws.{length-over}
 use Rattle.frames.specs.Message.{Message}
 use Rattle.raft.specs.Record.{State, good}
@@ -18,7 +17,7 @@ use Rattle.raft.specs.Event.{step}
 use Rattle.raft.specs.StepLaws.{no-done}
 use Rattle.raft.specs.EventLaws.{step-good}
 use Rattle.record.specs.declared.Record.{Record}
-use Rattle.record.specs.Calls.{state-of, record-of, Ready}
+use Rattle.record.specs.Calls.{state-of, Ready}
 use Rattle.record.specs.SameLaws.{next-lent}
 use Rattle.console.specs.declared.Answered.{Answered}
 use Rattle.console.specs.Session.{event-of, outcome-of}

@@ -2,27 +2,24 @@
 -- answer 0 the box and the lent log are the next record of the event's own step; after any other nothing has changed; a started box is the fresh one; and so
 -- many entries of the lent log as `handed_out` counts are what is handed out. Assumes nothing.
 use Prim.Native.Nat.{ℕ, _≤_}
-use mathlib.Core.Path.{_≡_, refl, sym, ap, subst, _∙_}
-use mathlib.Core.Bool.{Bool, true, false, cond}
+use mathlib.Core.Path.{_≡_, sym, ap, subst, _∙_}
+use mathlib.Core.Bool.{true}
 use mathlib.Core.List.{List}
-use native.Mathlib.Omega.{arith}
-use lib.Dec.{leb}
 use lib.ListN.{length}
 use Rattle.digits.specs.Room.{over}
 use Rattle.frames.specs.Message.{Message}
-use Rattle.raft.specs.Record.{State, fresh, is-membership, good, handed-out}
+use Rattle.raft.specs.Record.{State, fresh, good, handed-out}
 use Rattle.raft.specs.Lent.{entries-of}
 use Rattle.raft.specs.Sends.{texts}
-use Rattle.raft.specs.Journal.{head, journaled}
+use Rattle.raft.specs.Journal.{journaled}
 use Rattle.raft.specs.Outcome.{done}
 use Rattle.raft.specs.Event.{Event, step}
 use Rattle.raft.specs.EventLaws.{step-good}
-use Rattle.record.specs.declared.Record.{Record}
 use Rattle.record.specs.declared.Handed.{Handed}
-use Rattle.record.specs.Calls.{state-of, record-of, Called, untouched, call, Begun, begun, handed}
-use Rattle.record.specs.ExactlyWhen.{Asked, left-by, Answers, Table}
-use Rattle.record.specs.ExactlyWhenLaws.{given-exactly-when, refusal-untouched}
-use Rattle.record.specs.NextRecord.{Leaves, call-leaves, handed-are}
+use Rattle.record.specs.Calls.{state-of, Called, Begun, handed}
+use Rattle.record.specs.ExactlyWhen.{Asked, left-by}
+use Rattle.record.specs.ExactlyWhenLaws.{refusal-untouched}
+use Rattle.record.specs.NextRecord.{Leaves, call-leaves, handed-are, begun-fresh}
 use Rattle.node.specs.declared.Node.{Node}
 use Rattle.node.specs.declared.Started.{Started}
 use Rattle.node.specs.declared.Answer.{Answer}
@@ -95,10 +92,13 @@ module _ (e : Event) (n : Node) (terms orders journal messages : List ℕ) (r : 
 -- **A box that was started is the fresh one, whatever log is lent to it: what demand 3's runs begin with.**
 pub started-fresh : (me mask : ℕ) (journal : List ℕ) (r : Started) (journal' : List ℕ) → Starts me mask journal r journal' → r .refusal ≡ 0
     → (terms orders : List ℕ) → record-in (r .node) terms orders ≡ fresh me mask
-started-fresh me mask journal r journal' c z terms orders = ?
+started-fresh me mask journal r journal' c z =
+    subst (λ (x : Begun). (terms orders : List ℕ) → state-of (x .answer .state) terms orders ≡ fresh me mask) (sym c)
+    (begun-fresh me mask journal (sym (ap (λ (x : Begun). x .answer .refusal) c) ∙ z) .is)
 
 -- **So many entries of the lent log as are counted are handed out.**
 pub hands-out : (n : Node) (terms orders : List ℕ) (r : Handed) → r ≡ handed (n .state) terms orders → r .refusal ≡ 0
     → entries-of terms orders 0 (r .count) ≡ handed-out (record-in n terms orders)
 hands-out n terms orders r c z =
-    rw c (handed-are (n .state) terms orders [] [] (sym (ap (λ (x : Handed). x .refusal) c) ∙ z))
+    ap (λ (x : Handed). entries-of terms orders 0 (x .count)) c
+    ∙ handed-are (n .state) terms orders (sym (ap (λ (x : Handed). x .refusal) c) ∙ z)

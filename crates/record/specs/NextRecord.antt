@@ -1,7 +1,7 @@
 -- What a call leaves is the definition's: after the answer 0 the struct and the lent log are the next record of the event's step, and what stands in the
 -- room is its line and its messages; what is handed out is `handed-out` of that record, the one that demand 3 speaks of; and a start
 -- leaves the fresh box. Assumes nothing.
-use Prim.Native.Nat.{ℕ, _≤_, min}
+use Prim.Native.Nat.{ℕ, min}
 use native.Mathlib.Omega.{arith}
 use mathlib.Core.Path.{_≡_, refl, sym, ap, _∙_}
 use mathlib.Core.Bool.{Bool, true, false, cond}
@@ -16,7 +16,7 @@ use Rattle.raft.specs.Sends.{texts}
 use Rattle.raft.specs.Journal.{head, journaled}
 use Rattle.raft.specs.Outcome.{Outcome, done, refuse}
 use Rattle.raft.specs.Event.{Event, step}
-use Rattle.raft.specs.EventLaws.{step-good, step-numbered}
+use Rattle.raft.specs.EventLaws.{step-numbered}
 use Rattle.raft.specs.RefusalLaws.{Numbered, at-least-one}
 use Rattle.raft.specs.LentLaws.{length-entries-of, take-entries}
 use Rattle.record.specs.declared.Record.{Record}
