@@ -1,9 +1,7 @@
--- One answer only. The functions for C and Rust require nothing, and two answers that both meet the promise, from the same arguments, are the same number and leave
--- the same in everything lent. Stated over the contracts themselves: `Pre` and `Post` are what a function's `requires` and `ensures` say, r and s an answer and
--- the parameters as it leaves them. Assumes nothing.
-use Prim.Native.Nat.{ℕ}
+-- One answer only. The functions for C and Rust require nothing, and two answers that both meet the promise, from the same arguments, are the same number and
+-- leave the same in everything lent. Stated over the contracts themselves: `Pre` and `Post` are what a function's `requires` and `ensures` say; r is an answer,
+-- and s the parameters as the call leaves them, `s .0` the first, `s .1 .0` the second, and so on. Assumes nothing.
 use mathlib.Core.Path.{_≡_, sym, ap, _∙_}
-use mathlib.Core.List.{List}
 use denote.Ref.{now}
 use Rattle.abi.specs.Frames.{ReadFlat, WroteFlat}
 use Rattle.abi.specs.Boxes.{BoxFlat, StartFlat, HandedFlat}

@@ -1,6 +1,7 @@
--- One answer only. `begin`, `answer` and `answer_lines` require nothing, and two answers that both meet the promise, from the same arguments, are the same answer
--- and leave the same in everything lent: the log's terms and orders, and the room that is printed. Stated over the contracts themselves: `Pre` and `Post` are
--- what a function's `requires` and `ensures` say, r and s an answer and the parameters as it leaves them. Assumes nothing.
+-- One answer only. `begin`, `answer` and `answer_lines` require nothing, and two answers that both meet the promise, from the same arguments, are the same
+-- answer and leave the same in everything lent: the log's terms and orders, and the room that is printed. Stated over the contracts themselves: `Pre` and
+-- `Post` are what a function's `requires` and `ensures` say; r is an answer, and s the parameters as the call leaves them, `s .0` the first, `s .1 .0` the
+-- second, and so on. Assumes nothing.
 use mathlib.Core.Path.{_≡_, sym, ap, _∙_}
 use denote.Ref.{now}
 use Rattle.console.specs.Calls.{Beginning, Saying, Telling}

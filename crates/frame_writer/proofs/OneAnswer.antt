@@ -1,6 +1,6 @@
--- One answer only. Of `write`, the outside call: it requires nothing, and two answers that both meet its promise, from the same fields and the same room,
--- are the same answer and leave the same bytes in the room. Stated over the contract itself: `Pre` and `Post` are what its `requires` and `ensures` say.
--- Assumes nothing.
+-- One answer only. Of `write`, the outside call: it requires nothing, and two answers that both meet its promise, from the same fields and the same room, are
+-- the same answer and leave the same bytes in the room. Stated over the contract itself: `Pre` and `Post` are what its `requires` and `ensures` say; r is an
+-- answer, and s the parameters as the call leaves them, `s .0` the room. Assumes nothing.
 use mathlib.Core.Path.{_≡_, sym, ap, _∙_}
 use denote.Ref.{now}
 use Rattle.frames.specs.Writing.{Wrote}

@@ -1,12 +1,12 @@
 -- One answer only. The constructor, each event and `handed_out` require nothing, and two answers that both meet the promise, from the same arguments, are the
 -- same answer and leave the same in everything lent: terms, orders, journal, messages. Stated over the contracts themselves: `Pre` and `Post` are what a
--- function's `requires` and `ensures` say, r and s an answer and the parameters as it leaves them. Assumes nothing.
+-- function's `requires` and `ensures` say; r is an answer, and s the parameters as the call leaves them, `s .0` the first, `s .1 .0` the second, and so on.
+-- Assumes nothing.
 use Prim.Native.Nat.{ℕ}
 use mathlib.Core.Path.{_≡_, sym, ap, _∙_}
 use mathlib.Core.List.{List}
 use denote.Ref.{now}
 use Rattle.record.specs.Calls.{Called, Begun}
-use Rattle.node.specs.declared.Started.{Started}
 use Rattle.node.specs.declared.Answer.{Answer}
 use Rattle.node.proofs.Node.start.Reads as start
 use Rattle.node.proofs.Node.timeout.Reads as timeout

@@ -15,9 +15,10 @@ use Rattle.raft.specs.Journal.{journaled}
 use Rattle.raft.specs.Outcome.{done}
 use Rattle.raft.specs.Event.{Event, step}
 use Rattle.raft.specs.EventLaws.{step-good}
+use Rattle.raft.specs.Exactly.{Exactly}
 use Rattle.record.specs.declared.Handed.{Handed}
 use Rattle.record.specs.Calls.{state-of, Called, Begun, handed}
-use Rattle.record.specs.ExactlyWhen.{Asked, left-by}
+use Rattle.record.specs.ExactlyWhen.{Asked, left-by, Answers}
 use Rattle.record.specs.ExactlyWhenLaws.{refusal-untouched}
 use Rattle.record.specs.NextRecord.{Leaves, call-leaves, handed-are, begun-fresh}
 use Rattle.node.specs.declared.Node.{Node}
@@ -28,6 +29,10 @@ use Rattle.node.specs.Outside.{Starts, Calls}
 -- The record of a box and a lent log.
 abbrev pub record-in : Node → List ℕ → List ℕ → State
 record-in n terms orders = state-of (n .state) terms orders
+
+-- What a call is asked.
+abbrev pub asked : Event → Node → (terms orders journal messages : List ℕ) → Asked
+asked e n terms orders journal messages = record { event = e; box = n .state; terms = terms; orders = orders; journal = journal; messages = messages }
 
 -- The step that a call took: the record was good and the next one is, which is that of the box handed back and of the log as the call leaves it; the journal
 -- line and the messages stand at their room's start, everything behind them as it was.
@@ -76,8 +81,7 @@ module _ (e : Event) (n : Node) (terms orders journal messages : List ℕ) (r : 
   pub nothing-changed : 1 ≤ r .refusal
       → (r .node .state ≡ n .state) × (terms' ≡ terms) × (orders' ≡ orders) × (journal' ≡ journal) × (messages' ≡ messages)
   nothing-changed l =
-      let a : Asked = record { event = e; box = n .state; terms = terms; orders = orders; journal = journal; messages = messages } in
-      let same = c ∙ refusal-untouched a (r .refusal) l (sym (ap (λ (x : Called). x .answer .refusal) c)) in (
+      let same = c ∙ refusal-untouched (asked e n terms orders journal messages) (r .refusal) l (sym (ap (λ (x : Called). x .answer .refusal) c)) in (
         ap (λ (x : Called). x .answer .state) same,
         ap (λ (x : Called). x .terms) same,
         ap (λ (x : Called). x .orders) same,
@@ -85,9 +89,11 @@ module _ (e : Event) (n : Node) (terms orders journal messages : List ℕ) (r : 
         ap (λ (x : Called). x .messages) same,
       )
 
-  -- and the number is the one that 01's table gives (`record/specs/ExactlyWhen`).
-  pub number-given : r .refusal ≡ left-by (record { event = e; box = n .state; terms = terms; orders = orders; journal = journal; messages = messages }) .answer .refusal
-  number-given = ap (λ (x : Called). x .answer .refusal) c
+  -- **and the number is the one that 01's table gives**: what a row of the table says of the call (`record/specs/ExactlyWhen`) holds of the answer.
+  pub number-exactly : {Q : Type 0} (number : ℕ) → Exactly (Answers (asked e n terms orders journal messages) number) Q → Exactly (r .refusal ≡ number) Q
+  number-exactly number q =
+      let given : r .refusal ≡ left-by (asked e n terms orders journal messages) .answer .refusal = ap (λ (x : Called). x .answer .refusal) c in
+      record { only = λ p. q .only (sym given ∙ p); when = λ h. given ∙ q .when h }
 
 -- **A box that was started is the fresh one, whatever log is lent to it: what demand 3's runs begin with.**
 pub started-fresh : (me mask : ℕ) (journal : List ℕ) (r : Started) (journal' : List ℕ) → Starts me mask journal r journal' → r .refusal ≡ 0

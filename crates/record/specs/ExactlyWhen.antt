@@ -126,7 +126,8 @@ of-own-term s (append-answer from to term reply index) = false
 abbrev pub second-leader : Asked → Bool
 second-leader a = a-frame (a .event) (of-own-term (state a))
 
--- 7: "alarm: an append of no lower term would cut at or below commit"; it cuts nothing where the log lacks the previous entry
+-- 7: "alarm: an append of no lower term would cut at or below commit"; it cuts nothing where the log lacks the previous entry. (`cuts-handed-out` of
+-- `ExactlyWhenLaws`: the log that it would leave no longer begins with all that is handed out.)
 abbrev pub cuts : State → Message → Bool
 cuts s (vote-request from to term index prior) = false
 cuts s (vote-answer from to term reply) = false

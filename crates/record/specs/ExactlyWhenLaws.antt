@@ -22,12 +22,13 @@ use Rattle.raft.specs.Order.{order}
 use Rattle.raft.specs.Prompt.{prompt}
 use Rattle.raft.specs.Sends.{texts, vote-requests}
 use Rattle.raft.specs.Winning.{led, won}
-use Rattle.raft.specs.Journal.{head, journaled}
+use Rattle.raft.specs.Journal.{head, journaled, kept}
 use Rattle.raft.specs.Outcome.{Outcome, done, refuse}
 use Rattle.raft.specs.AnyMessage.{taking, taken}
 use Rattle.raft.specs.VoteRequest.{on-vote-request}
 use Rattle.raft.specs.VoteAnswer.{counts, counted, adding, on-vote-answer}
-use Rattle.raft.specs.Append.{lacks, cuts-committed, say-no, on-append}
+use Rattle.raft.specs.Append.{lacks, stop, passes, joined, cuts-committed, say-no, on-append}
+use Rattle.raft.specs.JoinLaws.{joined-same, kept-joined, kept-self, lacks-not}
 use Rattle.raft.specs.AppendAnswer.{answered, hear, on-append-answer}
 use Rattle.raft.specs.Receive.{sender, receiver, term-of, stale, current, deliver, is-for, arrive, arrive-read, receive}
 use Rattle.raft.specs.Event.{Event, times-out, takes-order, is-prompted, receives, step}
@@ -445,3 +446,18 @@ hand-exactly-when a =
       row-0 = carried 0 e (at-none hand-checked refl a);
       row-12 = carried 12 e (at-row 12 bad-record [] [] refl refl refl a);
     }
+
+-- ---- what "would cut at or below commit" says
+
+-- **At a good record whose log does not lack the previous entry, alarm 7's test is that the log that the append would leave no longer begins with all that is
+-- handed out**: the two logs have fewer entries in common, from the front, than commit.
+pub cuts-handed-out : (s : State) (index prior : ℕ) (es : List Entry) → good s ≡ true → lacks (s .log) index prior ≡ false
+    → cuts-committed s index es ≡ ltb (kept (s .log) (joined (s .log) index es)) (s .commit)
+unfolding cuts-committed
+cuts-handed-out s index prior es h l = go (passes (s .log) index es) refl
+  where
+    go : (b : Bool) → passes (s .log) index es ≡ b
+        → (not b && ltb (stop (s .log) index es) (s .commit)) ≡ ltb (kept (s .log) (joined (s .log) index es)) (s .commit)
+    go true p =
+        rw (joined-same (s .log) index es p, kept-self (s .log), le-ltb (length (s .log)) (s .commit) (good-facts s h .commit))
+    go false p = rw (kept-joined (s .log) index es (lacks-not (s .log) index prior l .0) p)
