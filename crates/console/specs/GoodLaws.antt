@@ -6,7 +6,6 @@ use mathlib.Core.Bool.{Bool, true, false, cond}
 use mathlib.Core.List.{List}
 use lib.ListN.{length}
 use borrow.Author.Tests.{le-leb}
-use Rattle.digits.specs.Room.{over}
 use Rattle.digits.specs.RoomLaws.{length-over}
 use Rattle.frames.specs.Message.{Message}
 use Rattle.raft.specs.Record.{State, good}
@@ -18,8 +17,8 @@ use Rattle.raft.specs.Event.{step}
 use Rattle.raft.specs.StepLaws.{no-done}
 use Rattle.raft.specs.EventLaws.{step-good}
 use Rattle.record.specs.declared.Record.{Record}
-use Rattle.record.specs.Calls.{state-of, record-of, Ready}
-use Rattle.record.specs.SameLaws.{lent-same, written-log}
+use Rattle.record.specs.Calls.{state-of, Ready}
+use Rattle.record.specs.SameLaws.{next-lent}
 use Rattle.console.specs.declared.Answered.{Answered}
 use Rattle.console.specs.Session.{event-of, outcome-of}
 use Rattle.console.specs.Calls.{longest, Saying, said, saying, Says, Known}
@@ -40,11 +39,6 @@ outcome-good line s t ms e = go (good s) refl e
     go : (g : Bool) → good s ≡ g → cond (good s) (step (event-of line) s) (refuse 12) ≡ done t ms → Stayed s t
     go true p q = record { before = p; after = step-good (event-of line) s p t ms (rw p at q) }
     go false p q = no-done 12 t ms (rw p at q)
-
--- the struct and the log that a step leaves are the next record
-pub next-lent : (t : State) (terms orders : List ℕ) → state-of (record-of t) (over terms 0 (terms-of (t .log))) (over orders 0 (orders-of (t .log))) ≡ t
-next-lent t terms orders =
-    lent-same t (over terms 0 (terms-of (t .log))) (over orders 0 (orders-of (t .log))) (written-log (t .log) terms orders)
 
 module _ {known : Bool} (line : List ℕ) {b : Record} {terms orders : List ℕ} (room : List ℕ) (k : Known known b terms orders) where
   -- whatever a line comes to

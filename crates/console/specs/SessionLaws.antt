@@ -33,7 +33,8 @@ use Rattle.console.specs.Calls.{longest, Beginning, beginning, Saying, s
 use Rattle.console.specs.LineLaws.{letter-long, order-long, asks-receive, outcome-step, not-good}
 use Rattle.printing.specs.TextLaws.{taken-back}
 use Rattle.console.specs.BeginLaws.{unshaped, shaped}
-use Rattle.console.specs.GoodLaws.{next-lent, known-stays}
+use Rattle.record.specs.SameLaws.{next-lent}
+use Rattle.console.specs.GoodLaws.{known-stays}
 
 -- ---- one line
 

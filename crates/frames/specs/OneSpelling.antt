@@ -56,7 +56,7 @@ one-spelling m n o z p y e = cc (frame-when (text m) m o z refl, frame-when (tex
 
 -- ---- of the struct that the code reads and writes
 
--- What the code's types say of the struct.
+-- What the code's types say of the struct: whoever has a value of it has this (`typed` of `frame_writer/proofs/ReadBack`), so no caller has to show it.
 pub record Typed (f : Fields) : Type 0 where
   pub kind : f .kind < 256
   pub from : f .from < 256

@@ -11,6 +11,7 @@ use lib.ListN.{length}
 use Rattle.frames.specs.Message.{sized}
 use Rattle.raft.specs.Record.{State, fresh, is-membership}
 use Rattle.raft.specs.Journal.{head, Line, line-text}
+use Rattle.raft.specs.Exactly.{Exactly}
 use Rattle.journal.specs.Lines.{lines, whole-bytes, mask-in, line-in}
 use Rattle.journal.specs.LinesLaws.{strung, lines-first, split, split-lines}
 use Rattle.journal.specs.LineSpelling.{line-fields, line-reads, line-exactly, line-sized, head-whole}
@@ -224,3 +225,14 @@ pub broken-when : (me : ℕ) (bytes : List ℕ) (n : ℕ) (h : Headed me bytes) 
 broken-when me bytes n h b =
     headed-on me bytes h
     ∙ rw (b .is, b .at) (breaks-replay _ (fresh me (h .mask)) (b .state) 2 (b .front) (b .line) (b .behind) _ (b .replays _ 2) (b .bad))
+
+-- ---- the rows of 01's table that are opening's ("on opening 11, 10"); the others stand in `record/specs/ExactlyWhen`
+
+-- 11: "no whole line, or the first is no proper head"
+pub row-11 : (me : ℕ) (bytes : List ℕ) → Exactly (opening me bytes ≡ headless) (Headed me bytes → ⊥)
+row-11 me bytes = record { only = headless-exactly me bytes; when = headless-when me bytes }
+
+-- 10: "a whole line after the head breaks a rule; the first such line's number, the head being 1", behind a proper head
+pub row-10 : (me : ℕ) (bytes : List ℕ) (n : ℕ)
+    → Exactly (opening me bytes ≡ broken n) ((h : Headed me bytes) × Breaks (fresh me (h .mask)) 2 (lines (h .rest)) n)
+row-10 me bytes n = record { only = broken-exactly me bytes n; when = λ p. broken-when me bytes n (p .0) (p .1) }

@@ -2,7 +2,7 @@
 use Prim.Native.Nat.{ℕ}
 use mathlib.Core.Path.{_≡_, refl}
 use mathlib.Core.Bool.{Bool, true, false, _&&_}
-use mathlib.Core.List.{List, [], _∷_, _++_, map}
+use mathlib.Core.List.{List, [], _∷_, _++_}
 use lib.Dec.{eqb}
 use lib.ListN.{take}
 use Rattle.digits.specs.Digits.{digit, place, is-digit, worth, hex, big-endian, spelt, numeral, field, run}
@@ -16,9 +16,14 @@ use Rattle.raft.specs.Journal.{head, line-text}
 use Rattle.journal.specs.Lines.{lines-behind, lines, whole-bytes, box-in, mask-in, head-shaped, count-in, line-shaped, line-in}
 use Rattle.journal.specs.Opening.{restarted, allows, after, replayed, Opened, opened, headless, broken, go-on, replay, is-head, open-lines, opening}
 
--- What opening comes to, in numbers: 0, the count of bytes, term, vote and the log's terms; or 11; or 10 and the line's number.
+-- A log in numbers: the term and the order of each entry.
+abbrev pub told : List Entry → List ℕ
+told [] = []
+told (e ∷ es) = e .term ∷ e .order ∷ told es
+
+-- What opening comes to, in numbers: 0, the count of bytes, term, vote and the log; or 11; or 10 and the line's number.
 unfoldable pub answer : Opened → List ℕ
-answer (opened s bytes) = 0 ∷ bytes ∷ s .term ∷ s .vote ∷ map (λ (e : Entry). e .term) (s .log)
+answer (opened s bytes) = 0 ∷ bytes ∷ s .term ∷ s .vote ∷ told (s .log)
 answer headless = 11 ∷ []
 answer (broken line) = 10 ∷ line ∷ []
 
@@ -41,10 +46,16 @@ abbrev pub the-line : List ℕ
 the-line =
     48 ∷ 49 ∷ 49 ∷ 48 ∷ 48 ∷ 49 ∷ 48 ∷ 48 ∷ 48 ∷ 48 ∷ 48 ∷ 48 ∷ 48 ∷ 49 ∷ 48 ∷ 49 ∷ 48 ∷ 48 ∷ 48 ∷ 48 ∷ 48 ∷ 48 ∷ 10 ∷ []
 
--- A line of box, term, vote and kept, with entries of these terms.
-abbrev pub of : (box term vote kept : ℕ) → List ℕ → List ℕ
-of box term vote kept terms =
-    line-text (record { box = box; term = term; vote = vote; kept = kept; entries = map (λ (t : ℕ). record { term = t; order = 7 }) terms })
+-- A line of box, term, vote and kept, with these entries. Entries that are not meant to be the same have different orders.
+abbrev pub of : (box term vote kept : ℕ) → List Entry → List ℕ
+of box term vote kept es = line-text (record { box = box; term = term; vote = vote; kept = kept; entries = es })
+
+abbrev pub entry : (term order : ℕ) → Entry
+entry term order = record { term = term; order = order }
+
+-- Three entries that a line adds to an empty log.
+abbrev pub three : List Entry
+three = entry 1 11 ∷ entry 1 12 ∷ entry 2 13 ∷ []
 
 unfoldable pub readings : Bool
 readings =
@@ -79,19 +90,21 @@ readings =
     && opens (the-head ++ of 1 1 0 0 [] ++ of 1 1 2 0 []) (0 ∷ 55 ∷ 1 ∷ 2 ∷ [])
     -- kept past the log; five entries
     && opens (the-head ++ of 1 1 1 1 []) (10 ∷ 2 ∷ [])
-    && opens (the-head ++ of 1 1 1 0 (1 ∷ 1 ∷ 1 ∷ 1 ∷ 1 ∷ [])) (10 ∷ 2 ∷ [])
+    && opens (the-head ++ of 1 1 1 0 (entry 1 11 ∷ entry 1 12 ∷ entry 1 13 ∷ entry 1 14 ∷ entry 1 15 ∷ [])) (10 ∷ 2 ∷ [])
     -- entries; some kept and one added; cut with nothing added
-    && opens (the-head ++ of 1 2 1 0 (1 ∷ 1 ∷ 2 ∷ [])) (0 ∷ 104 ∷ 2 ∷ 1 ∷ 1 ∷ 1 ∷ 2 ∷ [])
-    && opens (the-head ++ of 1 2 1 0 (1 ∷ 1 ∷ 2 ∷ []) ++ of 1 3 0 1 (3 ∷ [])) (0 ∷ 151 ∷ 3 ∷ 0 ∷ 1 ∷ 3 ∷ [])
-    && opens (the-head ++ of 1 2 1 0 (1 ∷ 1 ∷ 2 ∷ []) ++ of 1 2 1 1 []) (0 ∷ 127 ∷ 2 ∷ 1 ∷ 1 ∷ [])
+    && opens (the-head ++ of 1 2 1 0 three) (0 ∷ 104 ∷ 2 ∷ 1 ∷ 1 ∷ 11 ∷ 1 ∷ 12 ∷ 2 ∷ 13 ∷ [])
+    && opens (the-head ++ of 1 2 1 0 three ++ of 1 3 0 1 (entry 3 21 ∷ [])) (0 ∷ 151 ∷ 3 ∷ 0 ∷ 1 ∷ 11 ∷ 3 ∷ 21 ∷ [])
+    && opens (the-head ++ of 1 2 1 0 three ++ of 1 2 1 1 []) (0 ∷ 127 ∷ 2 ∷ 1 ∷ 1 ∷ 11 ∷ [])
     -- an entry's term of 0, above the term, falling, or below the entry at kept
-    && opens (the-head ++ of 1 1 1 0 (0 ∷ [])) (10 ∷ 2 ∷ [])
-    && opens (the-head ++ of 1 1 1 0 (2 ∷ [])) (10 ∷ 2 ∷ [])
-    && opens (the-head ++ of 1 2 1 0 (2 ∷ 1 ∷ [])) (10 ∷ 2 ∷ [])
-    && opens (the-head ++ of 1 2 1 0 (2 ∷ []) ++ of 1 2 1 1 (1 ∷ [])) (10 ∷ 3 ∷ [])
+    && opens (the-head ++ of 1 1 1 0 (entry 0 11 ∷ [])) (10 ∷ 2 ∷ [])
+    && opens (the-head ++ of 1 1 1 0 (entry 2 11 ∷ [])) (10 ∷ 2 ∷ [])
+    && opens (the-head ++ of 1 2 1 0 (entry 2 11 ∷ entry 1 12 ∷ [])) (10 ∷ 2 ∷ [])
+    && opens (the-head ++ of 1 2 1 0 (entry 2 11 ∷ []) ++ of 1 2 1 1 (entry 1 12 ∷ [])) (10 ∷ 3 ∷ [])
     -- a line that changes nothing, and one that adds equal entries again
     && opens (the-head ++ the-line ++ the-line) (0 ∷ 55 ∷ 1 ∷ 1 ∷ [])
-    && opens (the-head ++ of 1 1 1 0 (1 ∷ []) ++ of 1 1 1 0 (1 ∷ [])) (0 ∷ 103 ∷ 1 ∷ 1 ∷ 1 ∷ [])
+    && opens (the-head ++ of 1 1 1 0 (entry 1 11 ∷ []) ++ of 1 1 1 0 (entry 1 11 ∷ [])) (0 ∷ 103 ∷ 1 ∷ 1 ∷ 1 ∷ 11 ∷ [])
+    -- one that puts another order in an entry's place, its term the same
+    && opens (the-head ++ of 1 2 1 0 three ++ of 1 2 1 1 (entry 1 21 ∷ [])) (0 ∷ 151 ∷ 2 ∷ 1 ∷ 1 ∷ 11 ∷ 1 ∷ 21 ∷ [])
 
 -- Each holds.
 pub readings-hold : readings ≡ true

@@ -4,3 +4,4 @@ pub mod CodeLaws
 pub mod ReplayCode
 pub mod OpenCode
 pub mod BlockCode
+pub mod OpenedExactly

@@ -30,4 +30,5 @@ pub mod ReceiveLaws
 pub mod ReceiveSends
 pub mod RefusalLaws
 pub mod EventLaws
+pub mod Exactly
 pub mod Readings

@@ -1,8 +1,8 @@
 -- 01, 'Readings from the bench': those marked P, one list and a single claim. Assumes nothing.
-use Prim.Native.Nat.{ℕ, _+_}
+use Prim.Native.Nat.{ℕ, suc, _+_}
 use mathlib.Core.Path.{_≡_, refl}
 use mathlib.Core.Bool.{Bool, true, false, not, _&&_}
-use mathlib.Core.List.{List, [], _∷_, map}
+use mathlib.Core.List.{List, [], _∷_}
 use lib.Count.{ones}
 use lib.Dec.{eqb}
 use Rattle.frames.specs.declared.Entry.{Entry}
@@ -12,17 +12,26 @@ use Rattle.raft.specs.Majority.{holds, majority}
 use Rattle.raft.specs.Newer.{as-new}
 use Rattle.raft.specs.Record.{State, fresh, with-term, with-vote, with-log, with-commit, as-leader, term-at, is-other, good, is-membership, is-vote, is-role, are-votes, is-progress, sends-to}
 use Rattle.raft.specs.Commit.{matches, matching, is-matched, highest, settled}
+use Rattle.raft.specs.Journal.{same-entry}
 use Rattle.raft.specs.Outcome.{Outcome, done, refuse}
 use Rattle.raft.specs.AnyMessage.{taken}
 use Rattle.raft.specs.Append.{lacks, agreed, stop, passes, joined, cuts-committed, joining, on-append}
 use Rattle.raft.specs.Receive.{term-of, current, deliver}
 
--- A log of these terms; the orders are all alike.
-abbrev pub entry : ℕ → Entry
-entry term = record { term = term; order = 0 }
+-- An entry of a term, and the log of these terms. No two orders are alike: those of a log are 1, 2, 3, .. from the front, and an entry that is offered has
+-- one of its own. So an entry in another's place is seen, also where their terms are the same.
+abbrev pub entry : (term order : ℕ) → Entry
+entry term order = record { term = term; order = order }
+
+abbrev pub log-from : ℕ → List ℕ → List Entry
+log-from order [] = []
+log-from order (term ∷ terms) = entry term order ∷ log-from (suc order) terms
 
 abbrev pub log-of : List ℕ → List Entry
-log-of terms = map entry terms
+log-of terms = log-from 1 terms
+
+abbrev pub offered : ℕ → Entry
+offered term = entry term 99
 
 -- "mask 1f, leader in term 4, .. commit 1", the log's terms, and the index that "two others match".
 unfoldable pub leads : List ℕ → ℕ → State
@@ -40,14 +49,14 @@ follows-at commit = with-commit commit (with-log (log-of (1 ∷ 1 ∷ 2 ∷ []))
 
 -- "append of term 4, previous index 1 and term 1, one entry of term .., leader's commit ..", from box 1.
 unfoldable pub offer : (term commit : ℕ) → Message
-offer term commit = append 1 2 4 1 1 commit (log-of (term ∷ []))
+offer term commit = append 1 2 4 1 1 commit (offered term ∷ [])
 
--- A log has these terms.
-abbrev pub has-terms : List Entry → List ℕ → Bool
-has-terms [] [] = true
-has-terms [] (t ∷ ts) = false
-has-terms (e ∷ es) [] = false
-has-terms (e ∷ es) (t ∷ ts) = eqb (e .term) t && has-terms es ts
+-- Two logs have the same entries, terms and orders.
+abbrev pub same-log : List Entry → List Entry → Bool
+same-log [] [] = true
+same-log [] (y ∷ ys) = false
+same-log (x ∷ xs) [] = false
+same-log (x ∷ xs) (y ∷ ys) = same-entry x y && same-log xs ys
 
 -- A message says yes to an append, and names an index.
 abbrev pub says-index : Message → ℕ → Bool
@@ -62,10 +71,10 @@ answers [] n = false
 answers (m ∷ []) n = says-index m n
 answers (m ∷ k ∷ ms) n = false
 
--- An append comes to a log of these terms, a commit, and the answer's index,
-abbrev pub comes-to : Outcome → List ℕ → (commit index : ℕ) → Bool
-comes-to (done t ms) terms commit index = has-terms (t .log) terms && eqb (t .commit) commit && answers ms index
-comes-to (refuse n) terms commit index = false
+-- An append comes to a log, a commit, and the answer's index,
+abbrev pub comes-to : Outcome → List Entry → (commit index : ℕ) → Bool
+comes-to (done t ms) log commit index = same-log (t .log) log && eqb (t .commit) commit && answers ms index
+comes-to (refuse n) log commit index = false
 
 -- or to an alarm.
 abbrev pub alarms : Outcome → ℕ → Bool
@@ -73,8 +82,8 @@ alarms (done t ms) number = false
 alarms (refuse n) number = eqb n number
 
 -- A good record takes an append that is a frame so,
-unfoldable pub joins-to : State → Message → List ℕ → (commit index : ℕ) → Bool
-joins-to s m terms commit index = good s && obeys m && comes-to (deliver m s) terms commit index
+unfoldable pub joins-to : State → Message → List Entry → (commit index : ℕ) → Bool
+joins-to s m log commit index = good s && obeys m && comes-to (deliver m s) log commit index
 
 -- and so it alarms.
 unfoldable pub alarms-at : State → Message → ℕ → Bool
@@ -104,13 +113,13 @@ readings =
     ∷ not (as-new 9 1 1 2)
     -- "follower in term 4, its commit 1, log terms 1,1,2; append of term 4, previous index 1 and term 1, one entry of term 1, leader's
     -- commit 0: log unchanged, answer 2"
-    ∷ joins-to (follows-at 1) (offer 1 0) (1 ∷ 1 ∷ 2 ∷ []) 1 2
+    ∷ joins-to (follows-at 1) (offer 1 0) (follows-at 1 .log) 1 2
     -- "With the entry of term 3: log 1,3."
-    ∷ joins-to (follows-at 1) (offer 3 0) (1 ∷ 3 ∷ []) 1 2
+    ∷ joins-to (follows-at 1) (offer 3 0) (entry 1 1 ∷ offered 3 ∷ []) 1 2
     -- "The same with its own commit 2: alarm 7."
     ∷ alarms-at (follows-at 2) (offer 3 0) 7
     -- "that first append with leader's commit 9: commit 2, though the log is 3 long"
-    ∷ joins-to (follows-at 1) (offer 1 9) (1 ∷ 1 ∷ 2 ∷ []) 2 2
+    ∷ joins-to (follows-at 1) (offer 1 9) (follows-at 1 .log) 2 2
     -- "mask 1f, leader in term 4, log terms 1,2, commit 1, two others match 2: commit 1"
     ∷ settles-at (leads (1 ∷ 2 ∷ []) 2) 1
     -- "Log 1,2,4 and two others match 3: commit 3"

@@ -8,3 +8,6 @@ pub mod WrittenLaws
 pub mod DecidingLaws
 pub mod ChangeLaws
 pub mod SameLaws
+pub mod ExactlyWhen
+pub mod ExactlyWhenLaws
+pub mod NextRecord

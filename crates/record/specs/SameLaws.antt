@@ -33,3 +33,8 @@ in-front (e ∷ log) terms orders =
 pub written-log : (log : List Entry) (terms orders : List ℕ) → log ≡ entries-of (over terms 0 (terms-of log)) (over orders 0 (orders-of log)) 0 (length log)
 unfolding over
 written-log log terms orders = in-front log _ _
+
+-- the struct and the log that a step leaves are the next record
+pub next-lent : (t : State) (terms orders : List ℕ) → state-of (record-of t) (over terms 0 (terms-of (t .log))) (over orders 0 (orders-of (t .log))) ≡ t
+next-lent t terms orders =
+    lent-same t (over terms 0 (terms-of (t .log))) (over orders 0 (orders-of (t .log))) (written-log (t .log) terms orders)

@@ -1,0 +1,3 @@
+-- What holds of the contracts.
+mod OneAnswer
+mod ReadBack
