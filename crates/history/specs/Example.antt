@@ -28,7 +28,7 @@ unfolding majority ones fresh-park asks stood gives gave raised put wins with-le
 steps = tt
 
 -- an entry of term 1
-abbrev first : Entry
+abbrev pub first : Entry
 first = record { term = 1; order = 50 }
 
 -- Box 1 asks, box 2 gives it its vote, box 1 wins and adds the entry, box 2 accepts it;

@@ -2,8 +2,8 @@
 -- what a beginning and a majority are; configurations, and which is in force in a log (Conf to Views), by a rule: `fixed` where the membership is,
 -- `changing` where entries name it. Then History and its Facts, from which alone Lineage, LeaderComplete and Book follow (one leader a term, one
 -- book, every leader holds it); how a history grows (Put to Steps), each step keeping the facts; what is handed out, what a sent frame tells, an
--- election, a leader's commit and the alarms, as `safety` needs them, which is at `fixed`; and three examples: that the facts can hold, what they
--- do not say, and a change of membership.
+-- election, a leader's commit and the alarms, as `safety` needs them, which is at `fixed`; and four examples: that the facts can hold, what they
+-- do not say, a change of membership, and why a vote that is given late does not count.
 pub mod Begins
 pub mod Most
 pub mod Conf
@@ -31,3 +31,4 @@ pub mod Alarms
 pub mod Example
 pub mod ExampleLost
 pub mod ExampleChange
+pub mod ExampleLate

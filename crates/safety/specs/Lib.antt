@@ -6,8 +6,8 @@
 -- OneLeader to NoAlarms, what follows for the boxes of a park; HandsOut to BookRun, that what is handed out is in the book;
 -- DisksLaws to BookSite, the same over disks, and that each telling has the other's runs, record for record (DisksLaws, ParkOnDisk).
 -- Last, runs that are shown: a leader (Elects), an order that is committed and handed out (Commits), a second leader (Succeeds), and what would
--- happen if a torn step's messages left (Leaks). Three must-fail edits are shown false by them: any_term (`terms-differ`), holds_own_term
--- (`own-term-not-held`) and torn_step_sends (`leaks`).
+-- happen if a torn step's messages left (Leaks) or a box came back fresh (Forgets). Four must-fail edits are shown false by them: any_term
+-- (`terms-differ`), holds_own_term (`own-term-not-held`), torn_step_sends (`leaks`) and restart_forgets (`forgets`).
 pub mod Park
 pub mod Split
 pub mod Disks
@@ -41,3 +41,4 @@ pub mod Elects
 pub mod Commits
 pub mod Succeeds
 pub mod Leaks
+pub mod Forgets
