@@ -42,14 +42,15 @@ static uint8_t event(const uint8_t *text, size_t length) {
     if (length == 2 && text[0] == 'p')
         return box_prompt(box, terms, orders, line, sizeof line, messages, sizeof messages, sizes);
     if (text[0] == 'o' && bytes_in(text + 1, length - 1, order, 8))
-        return box_order(order_from_bytes(order), box, terms, orders, line, sizeof line, messages, sizeof messages, sizes);
+        return box_order(order_from_bytes(order), box, terms, orders, line, sizeof line, messages, sizeof messages,
+                         sizes);
     return box_receive(text, length, box, terms, orders, line, sizeof line, messages, sizeof messages, sizes);
 }
 
-/* Behind an event: the line first, whole and on the disk, and only then the messages. (A host syncs where this one
- * flushes. If that fails the box is gone, and comes back by journal_open.) */
+/* Behind an event: the line first, whole and on the disk (a real host syncs it), and only then the messages. Where the
+ * line cannot be made whole the box is gone, and comes back by journal_open. */
 static int store_and_send(void) {
-    if (fwrite(line, 1, sizes[0], stdout) != sizes[0] || fflush(stdout) != 0) return 0;
+    if (fwrite(line, 1, sizes[0], stdout) != sizes[0]) return 0;
     return fwrite(messages, 1, sizes[1], stdout) == sizes[1];
 }
 
@@ -67,6 +68,7 @@ static void hand_out(void) {
 /* The first line is the head of the box that is to be started: 01, 11, its number, its mask. */
 int main(void) {
     uint8_t text[FRAME_BYTES + 1], head[4];
+    setvbuf(stdout, NULL, _IONBF, 0); /* what is written is out */
     size_t length = read_line(text, sizeof text);
     if (length == 0) return 0;
     int is_head = bytes_in(text, length, head, 4) && head[0] == 0x01 && head[1] == 0x11;

@@ -26,7 +26,7 @@ use journal_inputs::Opening;
 use program_run::Program;
 use trouble::Trouble;
 
-const DEFAULT_PATHS: [&str; 2] = ["target/bin/jargulmet", "target/bin/replay"];
+const DEFAULT_PATHS: [&str; 2] = ["target/tests/jargulmet", "target/tests/replay"];
 
 /// Short inputs for each session.
 const FIRST_LINES: usize = 4;
