@@ -5,6 +5,7 @@ use support::library;
 use support::numbers::{Numbers, Orders, Sizes, Terms};
 use support::numbers::{CANDIDATE, COMMIT, FOLLOWER, LAST, LEADER, ME, MEMBERS, NEXT, ROLE};
 use support::numbers::{TERM, VOTE};
+use support::random::Random;
 use support::text::lines;
 
 /// A box as the library's callers hold it, and what is lent to it.
@@ -318,4 +319,38 @@ fn a_log_of_255_takes_an_order_and_one_of_256_answers_4() {
         assert_eq!(bench.order(order), 0);
     }
     assert_eq!(bench.order(256), 4);
+}
+
+/// There and back, against Rust's own, between bytes that have to stay.
+fn check_order(bytes: [u8; 8]) {
+    let order = library::order_of(&bytes);
+    assert_eq!(order, u64::from_be_bytes(bytes));
+    let mut lent = [0xa5; 24];
+    library::put_order(order, (&mut lent[8..16]).try_into().expect("eight"));
+    assert_eq!((&lent[..8], &lent[16..]), (&[0xa5; 8][..], &[0xa5; 8][..]));
+    assert_eq!(lent[8..16], order.to_be_bytes());
+    assert_eq!(lent[8..16], bytes);
+}
+
+#[test]
+fn an_order_is_its_8_bytes_as_they_stand() {
+    for place in 0..8 {
+        for byte in 0..=255 {
+            for rest in [0x00, 0x5a, 0xff] {
+                let mut bytes = [rest; 8];
+                bytes[place] = byte;
+                check_order(bytes);
+            }
+        }
+    }
+    let mut r = Random::seeded(1);
+    for _ in 0..1_000_000 {
+        check_order(r.next().to_ne_bytes());
+    }
+
+    let mut bench = elected();
+    let order = library::order_of(b"\x01\x23\x45\x67\x89\xab\xcd\xef");
+    assert_eq!(bench.order(order), 0);
+    let line = "01 10 01 00000001 01 0000 01 00000001 01 23 45 67 89 ab cd ef";
+    assert_eq!(bench.written().0, lines(&[line]));
 }

@@ -175,9 +175,14 @@ fn broken(r: &mut Random, journal: &Journal, rule: &Broken) -> Option<Opening> {
 }
 
 /// A head that is none, or another's, before the journal's lines.
-fn bad_head(r: &mut Random, journal: &Journal, counts: &mut Counts) -> Option<Opening> {
+fn bad_head(
+    r: &mut Random,
+    journal: &Journal,
+    turn: usize,
+    counts: &mut Counts,
+) -> Option<Opening> {
     let fresh = &journal.after[0];
-    let (name, make) = r.of(&HEADS);
+    let (name, make) = HEADS[turn % HEADS.len()];
     let (asked, head) = make(r, fresh.me, fresh.mask)?;
     counts.add(name);
     let mut input = format!("{asked}\n").into_bytes();
@@ -189,8 +194,8 @@ fn bad_head(r: &mut Random, journal: &Journal, counts: &mut Counts) -> Option<Op
     })
 }
 
-fn bad_asked(r: &mut Random, journal: &Journal, counts: &mut Counts) -> Opening {
-    let (name, make) = r.of(&ASKED);
+fn bad_asked(r: &mut Random, journal: &Journal, turn: usize, counts: &mut Counts) -> Opening {
+    let (name, make) = ASKED[turn % ASKED.len()];
     counts.add(name);
     let asked = make(r, journal.after[0].me);
     Opening {
@@ -238,7 +243,7 @@ fn damaged(r: &mut Random, journal: &Journal) -> Opening {
     opening(journal, &text, None)
 }
 
-/// Some of everything about a journal; the rules from the one of this number on.
+/// Some of everything about a journal; which heads, and which rules, are broken goes by turns.
 pub fn about(r: &mut Random, journal: &Journal, turn: usize, counts: &mut Counts) -> Vec<Opening> {
     let last = journal.last();
     counts.add_each(&[
@@ -252,8 +257,8 @@ pub fn about(r: &mut Random, journal: &Journal, turn: usize, counts: &mut Counts
     let end = 2 + r.of(&journal.ends);
     let any = r.below(length);
     all.extend([end, end - 1, any].map(|length| cut(journal, length, counts)));
-    all.push(bad_asked(r, journal, counts));
-    all.extend(bad_head(r, journal, counts));
+    all.push(bad_asked(r, journal, turn, counts));
+    all.extend(bad_head(r, journal, turn, counts));
     all.push(torn(r, journal, counts));
     all.push(long_line(r, journal, counts));
     all.push(damaged(r, journal));
@@ -262,7 +267,7 @@ pub fn about(r: &mut Random, journal: &Journal, turn: usize, counts: &mut Counts
     let doubled = [&journal.text, &b"\n"[..]].concat();
     counts.add_each(&[(number > 0xffff, "bad_line_above_65535")]);
     all.push(opening(journal, &doubled, bad_line(number)));
-    let in_turn = rules().cycle().skip(turn % rules().count());
+    let in_turn = rules().cycle().skip(RULES * turn % rules().count());
     let full = rules().filter(|rule| rule.name == "past_256" && last.last() > 252);
     for rule in in_turn.take(RULES).chain(full) {
         if let Some(opening) = broken(r, journal, rule) {
@@ -274,4 +279,4 @@ pub fn about(r: &mut Random, journal: &Journal, turn: usize, counts: &mut Counts
 }
 
 /// Rules broken in each journal.
-pub const RULES: usize = 5;
+const RULES: usize = 5;

@@ -26,7 +26,7 @@ use journal_inputs::Opening;
 use program_run::Program;
 use trouble::Trouble;
 
-const DEFAULT_PATHS: [&str; 2] = ["target/bin/jargulmet", "target/bin/replay"];
+const DEFAULT_PATHS: [&str; 2] = ["target/tests/jargulmet", "target/tests/replay"];
 
 /// Short inputs for each session.
 const FIRST_LINES: usize = 4;
@@ -143,8 +143,7 @@ impl ProgramComparison {
                 Journal::made(r, lines)
             }
         };
-        let turn = journal_inputs::RULES * number as usize;
-        let mut all = journal_inputs::about(r, &journal, turn, &mut self.opened);
+        let mut all = journal_inputs::about(r, &journal, number as usize, &mut self.opened);
         if number % 64 == 6 {
             self.opened.add("cut_at_every_byte");
             let lines = r.of(&[4, 5, 6]);

@@ -61,9 +61,9 @@ pub static HEADS: [(&str, Head); 25] = [
         text[r.below(8)] = no_digit(r);
         Some((me, text))
     }),
+    // With a letter in it.
     ("head_upper_case", |_, me, mask| {
-        let text = head(me, mask).to_ascii_uppercase();
-        (text != head(me, mask)).then_some((me, text))
+        Some((me, head(me, mask | 0x0f).to_ascii_uppercase()))
     }),
     ("head_one_digit_more", |r, me, mask| {
         let mut text = head(me, mask);

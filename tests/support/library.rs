@@ -73,6 +73,8 @@ unsafe extern "C" {
         terms: *mut u32,
         orders: *mut u64,
     ) -> u8;
+    pub fn order_from_bytes(bytes: *const u8) -> u64;
+    pub fn order_to_bytes(order: u64, bytes: *mut u8);
 }
 
 /// The refusal and 256 times the bytes written.
@@ -218,4 +220,14 @@ pub fn replay(text: &[u8], numbers: &mut Numbers, terms: &mut Terms, orders: &mu
             orders.as_mut_ptr(),
         )
     }
+}
+
+/// The order that 8 bytes are.
+pub fn order_of(bytes: &[u8; 8]) -> u64 {
+    unsafe { order_from_bytes(bytes.as_ptr()) }
+}
+
+/// Stores the 8 bytes that an order is.
+pub fn put_order(order: u64, bytes: &mut [u8; 8]) {
+    unsafe { order_to_bytes(order, bytes.as_mut_ptr()) }
 }

@@ -4,3 +4,5 @@ pub mod FrameLaws
 pub mod Boxes
 pub mod BoxLaws
 pub mod Journals
+pub mod Orders
+pub mod OrderLaws

@@ -2,6 +2,7 @@
 // A message goes as 17 numbers, a box as 22: `flat` says which.
 mod boxes;
 mod journals;
+mod orders;
 
 pub use boxes::box_handed_out;
 pub use boxes::box_order;
@@ -14,6 +15,8 @@ use flat::in_range;
 use flat::put_flat;
 pub use journals::journal_open;
 pub use journals::journal_replay;
+pub use orders::order_from_bytes;
+pub use orders::order_to_bytes;
 ghost use Rattle.abi.specs.Frames.{Reads, Writes};
 
 // frame_reader::read: 0 and the 17 numbers, or 1 and the numbers as they were.
