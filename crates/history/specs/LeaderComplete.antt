@@ -16,7 +16,8 @@ use Rattle.digits.specs.Tests.{and-left, and-right}
 use Rattle.frames.specs.declared.Entry.{Entry}
 use Rattle.raft.specs.Newer.{as-new}
 use Rattle.raft.specs.Record.{term-at}
-use Rattle.history.specs.Begins.{Begins, begins-long, begins-term, begins-trans, begins-take, begins-both, begins-known}
+use Rattle.history.specs.Begins.{Begins}
+use Rattle.history.specs.BeginsLaws.{begins-long, begins-term, begins-trans, begins-take, begins-both, begins-known}
 use Rattle.history.specs.History.{History, Won, last-of, Granted, Descends, kept, lost, first-of, Committed, Before, lower, sooner, Retains, retains, beaten, Facts}
 use Rattle.history.specs.Descent.{term-take, descends-last, won-descends, won-within, never-fall, own-part}
 use Rattle.history.specs.Most.{Met}

@@ -1,4 +1,4 @@
--- The longest that a step of a good record writes: a journal line with four entries, and six appends with four entries each. Assumes nothing.
+-- What a step of a good record writes is no longer than Longest says. Assumes nothing.
 use Prim.Native.Nat.{ℕ, zero, suc, _+_, _*_, _≤_, _<_}
 use native.Mathlib.Omega.{arith}
 use mathlib.Core.Path.{_≡_, refl}
@@ -30,20 +30,9 @@ use Rattle.raft.specs.StepLaws.{timeout-ends, order-ends, prompt-ends}
 use Rattle.raft.specs.SendLaws.{All, Obey}
 use Rattle.raft.specs.ReceiveLaws.{Ends, vote-request-ends, vote-answer-ends, append-ends, append-answer-ends, Arrives, receive-ends, offer-facts}
 use Rattle.raft.specs.EventLaws.{step-obeys}
+unfoldable pub use Rattle.journal.specs.Longest.{longest-line, longest-message, longest-messages}
 use Rattle.journal.specs.LineSpelling.{line-lined, length-lined, line-chars}
 use Rattle.journal.specs.StepMoves.{Moved, step-moves}
-
--- A journal line with four entries,
-abbrev pub longest-line : ℕ
-longest-line = 119
-
--- a message with four entries,
-abbrev pub longest-message : ℕ
-longest-message = 131
-
--- and one to each of six other boxes.
-abbrev pub longest-messages : ℕ
-longest-messages = 786
 
 -- What a step from s to t writes is no longer: its line, and its messages.
 pub record Longest (s t : State) (ms : List Message) : Type 0 where

@@ -9,8 +9,8 @@ use Rattle.raft.specs.Record.{State, leader, fresh, handed-out, is-membership}
 use Rattle.raft.specs.Outcome.{done}
 use Rattle.raft.specs.Event.{Event, step}
 use Rattle.journal.specs.Opening.{restarted}
-use Rattle.history.specs.Put.{put-same, put-other}
-use Rattle.history.specs.Begins.{begins-self}
+use Rattle.history.specs.PutLaws.{put-same, put-other}
+use Rattle.history.specs.BeginsLaws.{begins-self}
 use Rattle.history.specs.History.{History}
 use Rattle.history.specs.Steps.{fresh-park}
 use Rattle.safety.specs.Park.{Park, start, Comes, frames, after, Move, steps, restarts, stays, moves, run-both, Reached}

@@ -14,8 +14,8 @@ use Rattle.raft.specs.Event.{Event, step}
 use Rattle.journal.specs.Opening.{restarted, opened, opening}
 use Rattle.journal.specs.LifeLaws.{Life, life-opens}
 use Rattle.history.specs.InForce.{fixed}
-use Rattle.history.specs.Put.{put-same, put-other}
-use Rattle.history.specs.Begins.{begins-self}
+use Rattle.history.specs.PutLaws.{put-same, put-other}
+use Rattle.history.specs.BeginsLaws.{begins-self}
 use Rattle.history.specs.History.{History}
 use Rattle.history.specs.Told.{Tells}
 use Rattle.history.specs.Steps.{fresh-park}

@@ -11,7 +11,8 @@ use Rattle.frames.specs.Reading.{frame, reading}
 use Rattle.raft.specs.Record.{State, leader, handed-out}
 use Rattle.raft.specs.SendLaws.{All}
 use Rattle.history.specs.InForce.{fixed}
-use Rattle.history.specs.Begins.{Begins, begins-trans, begins-nothing}
+use Rattle.history.specs.Begins.{Begins}
+use Rattle.history.specs.BeginsLaws.{begins-trans, begins-nothing}
 use Rattle.history.specs.History.{History}
 use Rattle.history.specs.Grow.{first-grows}
 use Rattle.history.specs.Later.{Later}

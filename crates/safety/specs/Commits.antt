@@ -16,7 +16,8 @@ use Rattle.raft.specs.Prompt.{prompt}
 use Rattle.raft.specs.Append.{lacks, agreed, stop, passes, joined, cuts-committed, joining, on-append}
 use Rattle.raft.specs.AppendAnswer.{match-after, next-heard, heard, sends-again, answered, hear, on-append-answer}
 use Rattle.raft.specs.Event.{takes-order, is-prompted, receives}
-use Rattle.history.specs.Begins.{Begins, begins-long}
+use Rattle.history.specs.Begins.{Begins}
+use Rattle.history.specs.BeginsLaws.{begins-long}
 use Rattle.safety.specs.Park.{Park, after, Move, steps, Run, stays, moves, run-both, Reached, Leads}
 use Rattle.safety.specs.Runs.{parks}
 use Rattle.safety.specs.Demand3.{Demand3}

@@ -5,11 +5,11 @@ use mathlib.Core.Path.{_≡_}
 use Rattle.raft.specs.Record.{handed-out}
 use Rattle.raft.specs.Outcome.{refuse}
 use Rattle.raft.specs.Event.{Event, step}
-use Rattle.history.specs.Begins.{Begins}
+use Rattle.history.specs.Begins.{Begins, OneBegins}
 use Rattle.safety.specs.Park.{Comes, Leads}
 use Rattle.safety.specs.Runs.{Runs, parks, sites, InBook}
 use Rattle.safety.specs.OneLeader.{one-leader}
-use Rattle.safety.specs.OneBook.{OneBegins, handed-agree, later-leader-holds, earlier-leader-holds}
+use Rattle.safety.specs.OneBook.{handed-agree, later-leader-holds, earlier-leader-holds}
 use Rattle.safety.specs.BookRun.{handed-in-book}
 use Rattle.safety.specs.NoAlarms.{no-alarm}
 use Rattle.safety.specs.OnDisk.{site-one-leader, site-handed-agree, site-later-leader-holds, site-earlier-leader-holds, site-no-alarm}

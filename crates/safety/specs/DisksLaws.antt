@@ -14,7 +14,8 @@ use Rattle.journal.specs.LineSpelling.{head-nine}
 use Rattle.journal.specs.Opening.{restarted, opened, opening}
 use Rattle.journal.specs.Runs.{Step}
 use Rattle.journal.specs.LifeLaws.{Life, life-opens, life-fails}
-use Rattle.history.specs.Put.{put, put-same, put-other, put-all}
+use Rattle.history.specs.Put.{put}
+use Rattle.history.specs.PutLaws.{put-same, put-other, put-all}
 use Rattle.safety.specs.Park.{Park, start, Comes, frames, after, Move, Run, run-both}
 use Rattle.safety.specs.Proper.{event-steps}
 use Rattle.safety.specs.Disks.{Seat, Site, built, written, seated, Happens, steps, fails, reopens, trims, Goes, stays, goes}

@@ -4,13 +4,13 @@ use mathlib.Core.Path.{_≡_}
 use Rattle.raft.specs.Record.{handed-out}
 use Rattle.raft.specs.Outcome.{refuse}
 use Rattle.raft.specs.Event.{Event, step}
-use Rattle.history.specs.Begins.{Begins}
+use Rattle.history.specs.Begins.{Begins, OneBegins}
 use Rattle.safety.specs.Park.{start, Comes, Leads}
 use Rattle.safety.specs.Disks.{Site, built, Goes}
 use Rattle.safety.specs.DisksLaws.{wider, built-mirrors, RunsOn, goes-on}
 use Rattle.safety.specs.OneLeader.{one-leader}
 use Rattle.safety.specs.NoAlarms.{no-alarm}
-use Rattle.safety.specs.OneBook.{OneBegins, handed-agree, later-leader-holds, earlier-leader-holds}
+use Rattle.safety.specs.OneBook.{handed-agree, later-leader-holds, earlier-leader-holds}
 
 -- Two moments of a site's run are two of a park's, with the same records.
 module _ (mask : ℕ) (a b : Site) (r : Goes mask (built mask) a) (u : Goes mask a b) where

@@ -4,11 +4,11 @@ use Prim.Native.Nat.{ℕ, _≤_, _<_}
 use native.Mathlib.Omega.{arith}
 use mathlib.Core.Path.{_≡_, _∙_}
 use mathlib.Core.List.{List}
-use mathlib.Core.Logic.{_⊎_}
 use Rattle.frames.specs.declared.Entry.{Entry}
 use Rattle.raft.specs.Record.{handed-out}
 use Rattle.history.specs.InForce.{fixed}
-use Rattle.history.specs.Begins.{Begins, nothing-begins, begins-trans}
+use Rattle.history.specs.Begins.{Begins, OneBegins}
+use Rattle.history.specs.BeginsLaws.{nothing-begins, begins-trans}
 use Rattle.history.specs.History.{History, Won}
 use Rattle.history.specs.LeaderComplete.{leader-complete}
 use Rattle.history.specs.Book.{Covered, nothing, written, sender-holds, one-book}
@@ -39,10 +39,6 @@ module _ (mask : ℕ) {h : History} {p : Park} (r : Reached mask p) (c : Carried
       rw (← l .in-term) (record { won = record { box = p .box i .me; start = x .start; has = x .won }; same = x .log ∙ c .kept i .log })
 
 -- ---- two moments of a run
-
--- Of two logs one is a beginning of the other.
-abbrev pub OneBegins : List Entry → List Entry → Type 0
-OneBegins a b = Begins a b ⊎ Begins b a
 
 module _ (mask : ℕ) (p q : Park) (r : Reached mask p) (u : Run mask p q) where
   -- the history of the first, and the later one of the second

@@ -13,7 +13,8 @@ use Rattle.raft.specs.Outcome.{done}
 use Rattle.raft.specs.Event.{Event, step}
 use Rattle.journal.specs.Opening.{restarted, opened, opening}
 use Rattle.journal.specs.LifeLaws.{life-opens, life-fails}
-use Rattle.history.specs.Put.{put, put-same, put-other, put-all}
+use Rattle.history.specs.Put.{put}
+use Rattle.history.specs.PutLaws.{put-same, put-other, put-all}
 use Rattle.safety.specs.Park.{Park, start, Comes, frames, after, steps, restarts, stays, moves, Reached}
 use Rattle.safety.specs.Proper.{event-steps}
 use Rattle.safety.specs.Disks.{Seat, Site, built, written, seated, Happens, Goes}
