@@ -17,29 +17,9 @@ use Rattle.journal.specs.LifeLaws.{Life, life-opens, life-fails}
 use Rattle.history.specs.Put.{put}
 use Rattle.history.specs.PutLaws.{put-same, put-other, put-all}
 use Rattle.safety.specs.Park.{Park, start, Comes, frames, after, Move, Run, run-both}
+use Rattle.safety.specs.Sent.{Among, wider, among-more}
 use Rattle.safety.specs.Proper.{event-steps}
 use Rattle.safety.specs.Disks.{Seat, Site, built, written, seated, Happens, steps, fails, reopens, trims, Goes, stays, goes}
-
--- ---- events
-
--- Frames that are among others.
-abbrev pub Among : List (List ℕ) → List (List ℕ) → Type 0
-Among few many = (bytes : List ℕ) → List·Memᴰ bytes few → List·Memᴰ bytes many
-
--- An event may come where more was sent.
-pub wider : {few many : List (List ℕ)} → Among few many → (e : Event) → Comes few e → Comes many e
-wider w times-out c = tt
-wider w (takes-order o) c = c
-wider w is-prompted c = tt
-wider w (receives bytes) c = w bytes c
-
--- More frames on either side.
-pub among-more : (new few many : List (List ℕ)) → Among few many → Among (new ++ few) (new ++ many)
-among-more new few many w bytes m = go (List·Memᴰ·append-cases new m)
-  where
-    go : List·Memᴰ bytes new ⊎ List·Memᴰ bytes few → List·Memᴰ bytes (new ++ many)
-    go (inl a) = Memᴰ·append-left many a
-    go (inr b) = Memᴰ·append-right new (w bytes b)
 
 -- ---- a site and a park
 

@@ -16,9 +16,10 @@ use Rattle.journal.specs.LifeLaws.{life-opens, life-fails}
 use Rattle.history.specs.Put.{put}
 use Rattle.history.specs.PutLaws.{put-same, put-other, put-all}
 use Rattle.safety.specs.Park.{Park, start, Comes, frames, after, steps, restarts, stays, moves, Reached}
+use Rattle.safety.specs.Sent.{Among, wider, among-more}
 use Rattle.safety.specs.Proper.{event-steps}
 use Rattle.safety.specs.Disks.{Seat, Site, built, written, seated, Happens, Goes}
-use Rattle.safety.specs.DisksLaws.{Among, wider, among-more, built-mirrors, goes-on}
+use Rattle.safety.specs.DisksLaws.{built-mirrors, goes-on}
 
 -- A site that has run, with the park's records, and all that was sent in the park.
 pub record Shown (mask : ℕ) (p : Park) : Type 0 where
