@@ -17,7 +17,7 @@ use Rattle.history.specs.InForce.{Rule}
 use Rattle.history.specs.History.{History, Facts}
 use Rattle.history.specs.Book.{Covered, nothing, covered-less, one-book}
 use Rattle.history.specs.Later.{Later, covered-later}
-use Rattle.safety.specs.Book.{Change, led, writes, longer, book, below}
+use Rattle.safety.specs.Book.{Change, by-leader, writes, longer, book, below}
 
 -- ---- the longer of two
 
@@ -47,7 +47,7 @@ longer-second {a} {b} x = by-test (Begins b) (ltb (length a) (length b)) b a (λ
 
 -- What a box that leads behind a move hands out, it has written.
 pub leader-writes : (c : Change) → c .behind .role ≡ leader → writes c ≡ handed-out (c .behind)
-unfolding writes led
+unfolding writes by-leader
 leader-writes c e = rw (eq-eqb (c .behind .role) leader e)
 
 -- What moves have written is covered in the history, each by a term up to its own.
@@ -59,7 +59,7 @@ Wrote rule h (c ∷ earlier) = Covered rule h (c .behind .term) (writes c) × Wr
 pub covered-writes : {rule : Rule} {h : History} (c : Change) → Covered rule h (c .behind .term) (handed-out (c .behind))
     → Covered rule h (c .behind .term) (writes c)
 unfolding writes
-covered-writes {rule} {h} c x = by-test (Covered rule h (c .behind .term)) (led c) (handed-out (c .behind)) [] (λ e. x) (λ e. nothing refl)
+covered-writes {rule} {h} c x = by-test (Covered rule h (c .behind .term)) (by-leader c) (handed-out (c .behind)) [] (λ e. x) (λ e. nothing refl)
 
 -- and it stays so.
 pub wrote-later : {rule : Rule} {h more : History} (cs : List Change) → Facts rule h → Later h more → Wrote rule h cs → Wrote rule more cs

@@ -36,6 +36,7 @@ pub mod Account
 pub mod ParkAccount
 pub mod OneLeader
 pub mod OneBook
+pub mod BookToday
 pub mod DisksLaws
 pub mod ParkOnDisk
 pub mod SiteAccount

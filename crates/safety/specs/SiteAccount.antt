@@ -66,16 +66,20 @@ module _ (mask : ℕ) {a : Site} (g : Goes mask (built mask) a) (x : Account mas
       }
 
   -- A box that is opened by its journal hands out nothing.
-  opened-further : (i : ℕ) → is-membership i mask ≡ true → (u : State) (n : ℕ) (disk : List ℕ)
-      (v : Happens mask a (seated a i (record { now = u; disk = disk; place = n }) [])) → happened v ≡ record { before = a .seat i .now; behind = u }
-      → opening i disk ≡ opened u n → Further mask (sites mask) (Mirrors mask) (x .history) (book (happened-in g)) (goes g v)
+  pub opened-hands : (i : ℕ) → is-membership i mask ≡ true → (u : State) (n : ℕ) (disk : List ℕ)
+      → Happens mask a (seated a i (record { now = u; disk = disk; place = n }) []) → opening i disk ≡ opened u n → handed-out u ≡ []
   unfolding seated
-  opened-further i m u n disk v e h =
+  opened-hands i m u n disk v h =
       let comes = happens-on mask a _ (x .park) (x .stands) v in
       let life : Life i mask u n disk = rw (put-same (a .seat) i (record { now = u; disk = disk; place = n })) at (comes .mirrors .lives i m) in
       let back = life-opens i mask u n disk life in
       let same : u ≡ restarted u = cc in
-      quiet-further x (seat-moved i _ [] v e) (rw (ap handed-out same ∙ restarted-hands u) (nothing-begins _))
+      ap handed-out same ∙ restarted-hands u
+
+  opened-further : (i : ℕ) → is-membership i mask ≡ true → (u : State) (n : ℕ) (disk : List ℕ)
+      (v : Happens mask a (seated a i (record { now = u; disk = disk; place = n }) [])) → happened v ≡ record { before = a .seat i .now; behind = u }
+      → opening i disk ≡ opened u n → Further mask (sites mask) (Mirrors mask) (x .history) (book (happened-in g)) (goes g v)
+  opened-further i m u n disk v e h = quiet-further x (seat-moved i _ [] v e) (rw (opened-hands i m u n disk v h) (nothing-begins _))
 
   -- A step.
   stepped-further : (i : ℕ) (m : is-membership i mask ≡ true) (e : Event) (c : Comes (a .sent) e) (t : State) (ms : List Message)
