@@ -33,7 +33,7 @@ use Rattle.safety.specs.Runs.{Runs, parks, sites, moved, moves-of, happe
 use Rattle.safety.specs.Demand3.{Demand3, park-safe, site-safe}
 use Rattle.safety.specs.BookLaws.{longer-either}
 use Rattle.safety.specs.Endings.{Ending, rests, stands, leads-alone, takes-up, prompts, takes, votes, votes-not, wins, counts, declines, wants, joins, hears, hears-again, event-ending}
-use Rattle.safety.specs.ParkAccount.{restarted-hands}
+use Rattle.safety.specs.ParkAccount.{fresh-hands, restarted-hands}
 use Rattle.safety.specs.SiteAccount.{site-accounts, opened-hands}
 
 -- A log is empty, or a beginning of what some leader had committed at some moment of a run.
@@ -157,12 +157,16 @@ seat-leads {mask} {a} g i b ms v l =
 -- and what came back by its journal.
 site-writes-in : {mask : ℕ} {a b : Site} (g : Goes mask (built mask) a) (v : Happens mask a b) → InBook (sites mask) (Goes.goes g v) (writes (happened v))
 unfolding happened
-site-writes-in {mask} {a} g (Happens.steps i m e c t ms o) =
-    writes-leads (InBook (sites mask) _) (happened {a = a} (Happens.steps i m e c t ms o)) (empty refl) (seat-leads {a = a} g i _ ms (Happens.steps i m e c t ms o))
+site-writes-in {mask} {a} g (Happens.starts i m z) =
+    writes-nothing (InBook (sites mask) _) (happened {a = a} (Happens.starts i m z)) (fresh-hands i mask) (empty refl)
+site-writes-in {mask} {a} g (Happens.tears i m z k l) =
+    writes-nothing (InBook (sites mask) _) (happened {a = a} (Happens.tears i m z k l)) (fresh-hands i mask) (empty refl)
+site-writes-in {mask} {a} g (Happens.steps i m up e c t ms o) =
+    writes-leads (InBook (sites mask) _) (happened {a = a} (Happens.steps i m up e c t ms o)) (empty refl) (seat-leads {a = a} g i _ ms (Happens.steps i m up e c t ms o))
     (leader-stays (event-ending (a .sent) (a .seat i .now) e c t ms o))
-site-writes-in {mask} {a} g (Happens.fails i m e c t ms o k u n h) =
-    writes-nothing (InBook (sites mask) _) (happened {a = a} (Happens.fails i m e c t ms o k u n h))
-    (opened-hands mask g (site-accounts mask .account g) i m u n _ (Happens.fails i m e c t ms o k u n h) h) (empty refl)
+site-writes-in {mask} {a} g (Happens.fails i m up e c t ms o k u n h) =
+    writes-nothing (InBook (sites mask) _) (happened {a = a} (Happens.fails i m up e c t ms o k u n h))
+    (opened-hands mask g (site-accounts mask .account g) i m u n _ (Happens.fails i m up e c t ms o k u n h) h) (empty refl)
 site-writes-in {mask} {a} g (Happens.reopens i m u n h) =
     writes-nothing (InBook (sites mask) _) (happened {a = a} (Happens.reopens i m u n h))
     (opened-hands mask g (site-accounts mask .account g) i m u n _ (Happens.reopens i m u n h) h) (empty refl)

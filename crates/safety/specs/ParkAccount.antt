@@ -18,7 +18,12 @@ use Rattle.safety.specs.Endings.{event-ending}
 use Rattle.safety.specs.CarriedRun.{start-carried}
 use Rattle.safety.specs.Account.{Standing, Account, Further, Accounts, further-self, further-both, Moved, quiet-further, step-further}
 
--- What has come back hands out nothing.
+-- What is fresh hands out nothing,
+pub fresh-hands : (i mask : ℕ) → handed-out (fresh i mask) ≡ []
+unfolding handed-out fresh
+fresh-hands i mask = refl
+
+-- nor does what has come back.
 pub restarted-hands : (s : State) → handed-out (restarted s) ≡ []
 unfolding handed-out restarted
 restarted-hands s = refl

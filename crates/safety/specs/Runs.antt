@@ -2,7 +2,7 @@
 -- the disks (Disks). Assumes nothing.
 use Prim.Native.Nat.{ℕ}
 use mathlib.Core.List.{List, [], _∷_}
-use Rattle.raft.specs.Record.{State}
+use Rattle.raft.specs.Record.{State, fresh}
 use Rattle.journal.specs.Opening.{restarted}
 use Rattle.safety.specs.Park.{Park, start, Move, steps, restarts, stays, moves, run-both}
 use Rattle.safety.specs.Disks.{Site, built, Happens, Goes, goes-both}
@@ -49,8 +49,10 @@ parks mask =
 -- What happened to a box's record: a step that power cut short is the opening that follows it, whose commit is 0. (Where its line was whole the park
 -- has a step and a restart: there its commit counts.)
 unfoldable pub happened : {mask : ℕ} {a b : Site} → Happens mask a b → Change
-happened {a = a} (Happens.steps i m e c t messages o) = record { before = a .seat i .now; behind = t }
-happened {a = a} (Happens.fails i m e c t messages o k u n h) = record { before = a .seat i .now; behind = u }
+happened {mask} {a = a} (Happens.starts i m z) = record { before = a .seat i .now; behind = fresh i mask }
+happened {mask} {a = a} (Happens.tears i m z k l) = record { before = a .seat i .now; behind = fresh i mask }
+happened {a = a} (Happens.steps i m up e c t messages o) = record { before = a .seat i .now; behind = t }
+happened {a = a} (Happens.fails i m up e c t messages o k u n h) = record { before = a .seat i .now; behind = u }
 happened {a = a} (Happens.reopens i m u n h) = record { before = a .seat i .now; behind = u }
 happened {a = a} (Happens.trims i m k) = record { before = a .seat i .now; behind = a .seat i .now }
 
