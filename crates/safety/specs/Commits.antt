@@ -40,7 +40,7 @@ added = settle (ordered box-1-leads 50)
 abbrev pub fourth : Park
 fourth = after third 1 added (appends added)
 
-to-fourth : Move 7 third fourth
+pub to-fourth : Move 7 third fourth
 unfolding opens
 to-fourth = steps 1 refl (takes-order 50) (omega arith) added (appends added) refl
 
@@ -78,7 +78,7 @@ pub commit-run : Run 7 third sixth
 commit-run = moves (moves (moves stays to-fourth) to-fifth) to-sixth
 
 -- tells so,
-abbrev seventh : Park
+abbrev pub seventh : Park
 seventh = after sixth 1 committed (appends committed)
 
 to-seventh : Move 7 sixth seventh
@@ -86,13 +86,13 @@ unfolding opens
 to-seventh = steps 1 refl is-prompted tt committed (appends committed) refl
 
 -- and box 2 hands it out.
-abbrev news : Message
+abbrev pub news : Message
 news = append 1 2 1 1 1 1 []
 
-abbrev handing : State
+abbrev pub handing : State
 handing = joining joined-up 1 1 []
 
-abbrev eighth : Park
+abbrev pub eighth : Park
 eighth = after seventh 2 handing (append-answer 2 1 1 1 1 ∷ [])
 
 to-eighth : Move 7 seventh eighth

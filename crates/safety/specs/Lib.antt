@@ -43,4 +43,6 @@ pub mod SiteAccount
 pub mod Elects
 pub mod Commits
 pub mod Succeeds
+pub mod Conflicts
+pub mod HandsAgain
 pub mod Leaks
