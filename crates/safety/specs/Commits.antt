@@ -40,12 +40,12 @@ added = settle (ordered box-1-leads 50)
 abbrev pub fourth : Park
 fourth = after third 1 added (appends added)
 
-pub to-fourth : Move 7 third fourth
+unfoldable pub to-fourth : Move 7 third fourth
 unfolding opens
 to-fourth = steps 1 refl (takes-order 50) (omega arith) added (appends added) refl
 
 -- box 2 takes it up,
-abbrev offer : Message
+abbrev pub offer : Message
 offer = append 1 2 1 0 0 0 (entry ∷ [])
 
 abbrev pub joined-up : State
@@ -54,7 +54,7 @@ joined-up = joining box-2-votes 0 0 (entry ∷ [])
 abbrev pub fifth : Park
 fifth = after fourth 2 joined-up (append-answer 2 1 1 1 1 ∷ [])
 
-to-fifth : Move 7 fourth fifth
+unfoldable pub to-fifth : Move 7 fourth fifth
 unfolding opens
 to-fifth =
     steps 2 refl (receives (text offer)) (List·Memᴰ·head refl) joined-up (append-answer 2 1 1 1 1 ∷ [])
@@ -67,14 +67,14 @@ committed = settle (heard added 2 1 1)
 abbrev pub sixth : Park
 sixth = after fifth 1 committed []
 
-to-sixth : Move 7 fifth sixth
+unfoldable pub to-sixth : Move 7 fifth sixth
 unfolding opens
 to-sixth =
     steps 1 refl (receives (text (append-answer 2 1 1 1 1))) (List·Memᴰ·head refl) committed []
     (arrives added committed (append-answer 2 1 1 1 1) [] refl (omega arith) refl)
 
 -- the run in which the leader commits
-pub commit-run : Run 7 third sixth
+unfoldable pub commit-run : Run 7 third sixth
 commit-run = moves (moves (moves stays to-fourth) to-fifth) to-sixth
 
 -- tells so,

@@ -45,4 +45,6 @@ pub mod Commits
 pub mod Succeeds
 pub mod Conflicts
 pub mod HandsAgain
+pub mod TwoTerms
+pub mod BookShown
 pub mod Leaks
