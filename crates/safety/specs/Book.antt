@@ -1,7 +1,8 @@
 -- The book of a run: what its leaders have committed so far. Definitions alone. (Its laws: BookLaws.) Assumes nothing.
-use Prim.Native.Nat.{ℕ}
-use mathlib.Core.Bool.{Bool, cond, _&&_, _||_}
-use mathlib.Core.List.{List, [], _∷_}
+use Prim.Native.Nat.{ℕ, _≤_}
+use mathlib.Core.Path.{_≡_}
+use mathlib.Core.Bool.{Bool, true, cond, _&&_, _||_}
+use mathlib.Core.List.{List, [], _∷_, List·Memᴰ}
 use lib.Dec.{eqb, ltb}
 use lib.ListN.{length}
 use Rattle.frames.specs.declared.Entry.{Entry}
@@ -36,3 +37,7 @@ book (c ∷ earlier) = longer (book earlier) (writes c)
 unfoldable pub below : ℕ → List Change → List Change
 below bound [] = []
 below bound (c ∷ earlier) = cond (ltb (c .behind .term) bound) (c ∷ below bound earlier) (below bound earlier)
+
+-- No leader has committed by these moves in a term above t.
+abbrev pub NoneAbove : ℕ → List Change → Type 0
+NoneAbove t moves = (c : Change) → List·Memᴰ c moves → by-leader c ≡ true → c .behind .term ≤ t

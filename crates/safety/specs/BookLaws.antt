@@ -1,9 +1,9 @@
 -- The laws of the book: where all that was written is covered by a history, it is one book, which only grows. Assumes nothing.
 use Prim.Native.Nat.{ℕ, suc, _≤_}
 use native.Mathlib.Omega.{arith}
-use mathlib.Core.Path.{_≡_, refl}
+use mathlib.Core.Path.{_≡_, refl, ap, _∙_}
 use mathlib.Core.Bool.{Bool, true, false, cond}
-use mathlib.Core.List.{List, [], _∷_}
+use mathlib.Core.List.{List, [], _∷_, List·Memᴰ·head, List·Memᴰ·tail}
 use mathlib.Core.Logic.{inl, inr}
 use lib.Dec.{ltb}
 use lib.ListN.{length}
@@ -17,7 +17,7 @@ use Rattle.history.specs.InForce.{Rule}
 use Rattle.history.specs.History.{History, Facts}
 use Rattle.history.specs.Book.{Covered, nothing, covered-less, one-book}
 use Rattle.history.specs.Later.{Later, covered-later}
-use Rattle.safety.specs.Book.{Change, by-leader, writes, longer, book, below}
+use Rattle.safety.specs.Book.{Change, by-leader, writes, longer, book, below, NoneAbove}
 
 -- ---- the longer of two
 
@@ -49,6 +49,13 @@ longer-second {a} {b} x = by-test (Begins b) (ltb (length a) (length b)) b a (λ
 pub leader-writes : (c : Change) → c .behind .role ≡ leader → writes c ≡ handed-out (c .behind)
 unfolding writes by-leader
 leader-writes c e = rw (eq-eqb (c .behind .role) leader e)
+
+-- A move that is no leader's leaves the book.
+nothing-written : (c : Change) (log : List Entry) → (by-leader c ≡ true → ⊥) → log ≡ longer log (writes c)
+unfolding writes longer
+nothing-written c log none =
+    by-test (λ x. log ≡ cond (ltb (length log) (length x)) x log) (by-leader c) (handed-out (c .behind)) [] (λ e. absurd (none e))
+    (λ e. by-test (λ x. log ≡ x) (ltb (length log) 0) [] log (λ h. absurd (omega (arith, ltb-true (length log) 0 h))) (λ h. refl))
 
 -- What moves have written is covered in the history, each by a term up to its own.
 unfoldable pub Wrote : Rule → History → List Change → Type 0
@@ -87,6 +94,16 @@ below-nothing [] = refl
 below-nothing (c ∷ cs) =
     by-test (λ x. book x ≡ []) (ltb (c .behind .term) 0) (c ∷ below 0 cs) (below 0 cs) (λ e. absurd (omega (arith, ltb-true (c .behind .term) 0 e)))
     (λ e. below-nothing cs)
+
+-- (above the highest term of a leader there is nothing more)
+pub below-all : (t : ℕ) (cs : List Change) → NoneAbove t cs → book (below (suc t) cs) ≡ book cs
+unfolding book below
+below-all t [] none = refl
+below-all t (c ∷ cs) none =
+    let rest = below-all t cs (λ d m. none d (List·Memᴰ·tail m)) in
+    by-test (λ x. book x ≡ longer (book cs) (writes c)) (ltb (c .behind .term) (suc t)) (c ∷ below (suc t) cs) (below (suc t) cs)
+    (λ e. ap (λ b. longer b (writes c)) rest)
+    (λ e. rest ∙ nothing-written c (book cs) (λ h. omega (arith, ltb-false (c .behind .term) (suc t) e, none c (List·Memᴰ·head refl) h)))
 
 -- and the whole book by some term.
 record SomeTerm (rule : Rule) (h : History) (log : List Entry) : Type 0 where

@@ -8,7 +8,7 @@ use Rattle.raft.specs.Event.{Event, step}
 use Rattle.history.specs.Begins.{Begins, OneBegins}
 use Rattle.history.specs.BeginsLaws.{begins-trans}
 use Rattle.safety.specs.Park.{Comes, Leads}
-use Rattle.safety.specs.Book.{book, below}
+use Rattle.safety.specs.Book.{book, below, NoneAbove}
 use Rattle.safety.specs.Runs.{Runs, parks, sites}
 use Rattle.safety.specs.Sent.{wider}
 use Rattle.safety.specs.BookLaws.{book-below}
@@ -16,7 +16,7 @@ use Rattle.safety.specs.Account.{Standing, Account, Further, Accounts}
 use Rattle.safety.specs.ParkAccount.{park-accounts}
 use Rattle.safety.specs.SiteAccount.{site-accounts}
 use Rattle.safety.specs.OneLeader.{one-leader}
-use Rattle.safety.specs.OneBook.{handed-agree, later-leader-holds, earlier-leader-holds, leader-holds-book, leader-held-book}
+use Rattle.safety.specs.OneBook.{handed-agree, later-leader-holds, earlier-leader-holds, leader-holds-book, newest-leader-holds, leader-held-book}
 use Rattle.safety.specs.NoAlarms.{no-alarm}
 
 -- "Take any run of fresh boxes with the same fixed membership and different numbers .." p is a moment of a run, q the same or a later one. What a box has
@@ -41,9 +41,12 @@ pub record Demand3 (R : Runs) : Type 0 where
       → Leads (R .box p i) t → Leads (R .box q j) u → t ≤ u → Begins (handed-out (R .box p i)) (R .box q j .log)
   pub holds-after : (p q : R .Moment) → R .Run (R .first) p → R .Run p q → (i j t u : ℕ)
       → Leads (R .box p i) t → Leads (R .box q j) u → u < t → Begins (handed-out (R .box q j)) (R .box p i .log)
-  -- so all of the book that was written before, in terms up to its own; and also what is written into it only later, in terms below its own.
+  -- so all of the book that was written before, in terms up to its own; the whole book as it was, where no leader had passed its term; and also
+  -- what is written into it only later, in terms below its own.
   pub holds-book : (p q : R .Moment) (r : R .Run (R .first) p) → R .Run p q → (j t : ℕ)
       → Leads (R .box q j) t → Begins (book (below (suc t) (R .changes r))) (R .box q j .log)
+  pub newest-holds : (p q : R .Moment) (r : R .Run (R .first) p) → R .Run p q → (j t : ℕ)
+      → NoneAbove t (R .changes r) → Leads (R .box q j) t → Begins (book (R .changes r)) (R .box q j .log)
   pub held-book : (p q : R .Moment) (r : R .Run (R .first) p) (u : R .Run p q) (i t : ℕ)
       → Leads (R .box p i) t → Begins (book (below t (R .changes (R .both r u)))) (R .box p i .log)
   -- "and what any box hands out, also after replaying its journal, is a beginning of that book", as it is at that moment;
@@ -74,6 +77,7 @@ module _ {mask : ℕ} {R : Runs} {S : Standing R} (A : Accounts mask R S) where
         holds-after = λ p q r u i j s t a b l.
             earlier-leader-holds (A .account r) (on r u .account) (on r u .later) i j s a (rw (b .in-term) l);
         holds-book = λ p q r u. leader-holds-book (A .account r) (on r u .account) (on r u .later);
+        newest-holds = λ p q r u. newest-leader-holds (A .account r) (on r u .account) (on r u .later);
         held-book = λ p q r u. leader-held-book (A .account r) (on r u .account) (on r u .later);
         in-book = λ p r. A .account r .booked .boxes;
         boxes-agree = λ p q r u. handed-agree (A .account r) (on r u .account) (on r u .later);

@@ -14,9 +14,9 @@ use Rattle.history.specs.LeaderComplete.{leader-complete}
 use Rattle.history.specs.Book.{Covered, nothing, written, sender-holds, one-book}
 use Rattle.history.specs.Later.{Later, covered-later}
 use Rattle.safety.specs.Park.{Leads}
-use Rattle.safety.specs.Book.{Change, book, below}
+use Rattle.safety.specs.Book.{Change, book, below, NoneAbove}
 use Rattle.safety.specs.Runs.{Runs}
-use Rattle.safety.specs.BookLaws.{Wrote, wrote-later, below-covered, below-nothing}
+use Rattle.safety.specs.BookLaws.{Wrote, wrote-later, below-covered, below-nothing, below-all}
 use Rattle.safety.specs.Account.{Standing, Account, box-covered}
 
 -- ---- one moment
@@ -84,6 +84,10 @@ module _ {mask : ℕ} {R : Runs} {S : Standing R} {p q : R .Moment} {r : R .Run 
   pub leader-holds-book : (j term : ℕ) → Leads (R .box q j) term → Begins (book (below (suc term) (R .changes r))) (R .box q j .log)
   leader-holds-book j term b =
       leader-has y (below-covered term (R .changes r) (wrote-later (R .changes r) (x .carried .facts) later (x .wrote))) j term (omega arith) b
+
+  -- **all of it, where no leader had passed that term,**
+  pub newest-leader-holds : (j term : ℕ) → NoneAbove term (R .changes r) → Leads (R .box q j) term → Begins (book (R .changes r)) (R .box q j .log)
+  newest-leader-holds j term none b = rw (below-all term (R .changes r) none) at (leader-holds-book j term b)
 
   -- **and held already what is written later, in the terms below its own.**
   pub leader-held-book : (i term : ℕ) → Leads (R .box p i) term → Begins (book (below term (R .changes s))) (R .box p i .log)
