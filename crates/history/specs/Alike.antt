@@ -7,7 +7,8 @@ use lib.ListN.{length, getD, take}
 use lib.Seq.{getD-take, take-take, length-take-le}
 use Rattle.frames.specs.declared.Entry.{Entry}
 use Rattle.frames.specs.Fields.{no-entry}
-use Rattle.history.specs.Begins.{Begins, begins-same, begins-take}
+use Rattle.history.specs.Begins.{Begins}
+use Rattle.history.specs.BeginsLaws.{begins-same, begins-take}
 
 -- Their first p entries are the same.
 pub record Alike (p : ℕ) (a b : List Entry) : Type 0 where

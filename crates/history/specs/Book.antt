@@ -4,11 +4,12 @@ use native.Mathlib.Decide.{decLe, decLt}
 use native.Mathlib.Omega.{arith}
 use mathlib.Core.Path.{_≡_, ap}
 use mathlib.Core.List.{List, []}
-use mathlib.Core.Logic.{_⊎_, inl, inr}
+use mathlib.Core.Logic.{inl, inr}
 use lib.ListN.{length, take}
 use lib.Seq.{length-take-le}
 use Rattle.frames.specs.declared.Entry.{Entry}
-use Rattle.history.specs.Begins.{Begins, begins-long, nothing-begins, begins-nothing, begins-self, begins-trans, begins-take, begins-either}
+use Rattle.history.specs.Begins.{Begins, OneBegins}
+use Rattle.history.specs.BeginsLaws.{begins-long, nothing-begins, begins-nothing, begins-self, begins-trans, begins-take, begins-either}
 use Rattle.history.specs.History.{History, Won, first-of, Committed, Before, lower, sooner, Settled, none, by, Facts}
 use Rattle.history.specs.Alike.{Alike, alike-both, alike-less, begins-alike, first-alike}
 use Rattle.history.specs.InForce.{Rule}
@@ -43,21 +44,21 @@ module _ {rule : Rule} {h : History} (f : Facts rule h) where
 
   -- Two committed beginnings: one begins the other.
   pub committed-agree : {t n m s i j : ℕ} → Committed rule h t n m → Committed rule h s i j
-      → Begins (first-of h t n) (first-of h s i) ⊎ Begins (first-of h s i) (first-of h t n)
+      → OneBegins (first-of h t n) (first-of h s i)
   committed-agree {t} {n} {m} {s} {i} {j} x y = go (decLe t s)
     where
-      go : Dec (t ≤ s) → Begins (first-of h t n) (first-of h s i) ⊎ Begins (first-of h s i) (first-of h t n)
+      go : Dec (t ≤ s) → OneBegins (first-of h t n) (first-of h s i)
       go (yes l) = begins-either (leader-holds x s (committed-reaches f y .won) l) (begins-take i (h .leaders .log s))
       go (no l) = begins-either (begins-take n (h .leaders .log t)) (leader-holds y t (committed-reaches f x .won) (omega arith))
 
   -- So all that is covered makes one book.
   pub one-book : {bound higher : ℕ} {log other : List Entry} → Covered rule h bound log → Covered rule h higher other
-      → Begins log other ⊎ Begins other log
+      → OneBegins log other
   one-book {other = other} (nothing e) y = inl (rw e (nothing-begins other))
   one-book {log = log} (written x a p) (nothing e) = inr (rw e (nothing-begins log))
   one-book {log = log} {other = other} (written x a p) (written y b q) = go (committed-agree x y) p q
     where
-      go : {u v : List Entry} → Begins u v ⊎ Begins v u → Begins log u → Begins other v → Begins log other ⊎ Begins other log
+      go : {u v : List Entry} → OneBegins u v → Begins log u → Begins other v → OneBegins log other
       go (inl r) p q = begins-either (begins-trans p r) q
       go (inr r) p q = begins-either p (begins-trans q r)
 

@@ -8,7 +8,8 @@ use lib.ListN.{length, take}
 use lib.Seq.{take-length, length-take-le}
 use Rattle.frames.specs.declared.Entry.{Entry}
 use Rattle.raft.specs.Record.{term-at}
-use Rattle.history.specs.Begins.{Begins, begins-long, begins-same, begins-term, begins-take, begins-both, begins-whole}
+use Rattle.history.specs.Begins.{Begins}
+use Rattle.history.specs.BeginsLaws.{begins-long, begins-same, begins-term, begins-take, begins-both, begins-whole}
 use Rattle.history.specs.InForce.{Rule}
 use Rattle.history.specs.History.{Leaders, History, Won, Comes, Descends, Within, Leading, Facts}
 

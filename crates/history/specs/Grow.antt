@@ -7,7 +7,8 @@ use mathlib.Core.List.{List, [], _∷_, _++_}
 use mathlib.Core.Logic.{_⊎_}
 use lib.ListN.{take}
 use Rattle.frames.specs.declared.Entry.{Entry}
-use Rattle.history.specs.Begins.{Begins, begins-long, begins-same, begins-trans}
+use Rattle.history.specs.Begins.{Begins}
+use Rattle.history.specs.BeginsLaws.{begins-long, begins-same, begins-trans}
 use Rattle.history.specs.Put.{put}
 use Rattle.history.specs.History.{Leaders, History, Won, Comes, Descends, Reaches, Keeps, kept, lost}
 

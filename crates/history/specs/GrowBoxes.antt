@@ -9,10 +9,11 @@ use mathlib.Core.Logic.{inl, inr}
 use lib.ListN.{take}
 use lib.Seq.{take-take}
 use Rattle.frames.specs.declared.Entry.{Entry}
-use Rattle.history.specs.Begins.{Begins, begins-trans, begins-take, begins-known}
+use Rattle.history.specs.Begins.{Begins}
+use Rattle.history.specs.BeginsLaws.{begins-trans, begins-take, begins-known}
 use Rattle.history.specs.History.{History, Won, Descends, Within, Reaches, Keeps, kept, lost, Retains, Facts}
 use Rattle.history.specs.Descent.{within-more, won-within, won-descends}
-use Rattle.history.specs.Put.{put-same, put-both, put-all}
+use Rattle.history.specs.PutLaws.{put-same, put-both, put-all}
 use Rattle.history.specs.Grow.{raised, moved, keeps-more}
 use Rattle.history.specs.Join.{Joins, joins-keeps, joins-first, joins-descends, joins-within}
 use Rattle.history.specs.InForce.{Rule}

@@ -11,9 +11,10 @@ use lib.Seq.{getD-append-seam}
 use Rattle.frames.specs.declared.Entry.{Entry}
 use Rattle.frames.specs.Fields.{no-entry}
 use Rattle.raft.specs.Record.{term-at}
-use Rattle.history.specs.Begins.{Begins, begins-term, begins-self, begins-trans, begins-added}
+use Rattle.history.specs.Begins.{Begins}
+use Rattle.history.specs.BeginsLaws.{begins-term, begins-self, begins-trans, begins-added}
 use Rattle.history.specs.History.{Leaders, History, Won, Granted, Leading, Reaches, Retains, retains, beaten, Settled, Follows, Chained, Facts}
-use Rattle.history.specs.Put.{put-same, put-other, put-all}
+use Rattle.history.specs.PutLaws.{put-same, put-other, put-all}
 use Rattle.history.specs.Grow.{with-leaders, winner, longer, Grows, reaches-grows, first-grows, descends-grows, keeps-grows}
 use Rattle.history.specs.Conf.{Conf, Agree, Extends}
 use Rattle.history.specs.Alike.{Alike, alike-swap, alike-less, begins-alike}

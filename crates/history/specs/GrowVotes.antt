@@ -11,7 +11,8 @@ use Rattle.frames.specs.declared.Entry.{Entry}
 use Rattle.raft.specs.Record.{term-at}
 use Rattle.history.specs.History.{Leaders, History, Fair, Descends, Keeps, kept, lost, Retains, retains, beaten, Facts}
 use Rattle.history.specs.Descent.{within-more}
-use Rattle.history.specs.Put.{put, put-same, put-up}
+use Rattle.history.specs.Put.{put}
+use Rattle.history.specs.PutLaws.{put-same, put-up}
 use Rattle.history.specs.Grow.{raised, Asks, stood, Votes, gave, keeps-more}
 use Rattle.history.specs.Later.{chained-later, raised-later, stood-later, gave-later}
 use Rattle.history.specs.Conf.{agree-map}

@@ -10,7 +10,8 @@ use lib.Seq.{take-take, length-take-le}
 use Rattle.frames.specs.declared.Entry.{Entry}
 use Rattle.raft.specs.Append.{commit-after}
 use Rattle.history.specs.InForce.{Rule}
-use Rattle.history.specs.Begins.{Begins, begins-long, begins-same, begins-self, begins-take}
+use Rattle.history.specs.Begins.{Begins}
+use Rattle.history.specs.BeginsLaws.{begins-long, begins-same, begins-self, begins-take}
 use Rattle.history.specs.History.{History, Won, Reaches, Facts}
 use Rattle.history.specs.Book.{Covered, nothing, covered-less, sender-holds}
 use Rattle.history.specs.Join.{Joins, joins-keeps, joins-first}

@@ -16,7 +16,8 @@ use Rattle.frames.specs.Fields.{no-entry}
 use Rattle.raft.specs.Record.{State, last-index, term-at, handed-out}
 use Rattle.raft.specs.Append.{lacks, agreed, stop, passes, joined, cuts-committed}
 use Rattle.raft.specs.JoinLaws.{agreed-most, agreed-held, agreed-terms, stop-offered, joined-same, joined-cut, lacks-not}
-use Rattle.history.specs.Begins.{Begins, begins-long, begins-term, begins-take, begins-both, begins-drop, begins-trans, begins-self, drop-take}
+use Rattle.history.specs.Begins.{Begins}
+use Rattle.history.specs.BeginsLaws.{begins-long, begins-term, begins-take, begins-both, begins-drop, begins-trans, begins-self, drop-take}
 use Rattle.history.specs.History.{Leaders, Descends, Within}
 use Rattle.history.specs.Descent.{same-term, descends-first, within-first}
 

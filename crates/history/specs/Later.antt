@@ -7,14 +7,14 @@ use mathlib.Core.Path.{sym, subst, _∙_}
 use mathlib.Core.List.{List}
 use mathlib.Core.Logic.{inl}
 use Rattle.frames.specs.declared.Entry.{Entry}
-use Rattle.history.specs.Begins.{begins-self, begins-trans, begins-long, begins-term}
+use Rattle.history.specs.BeginsLaws.{begins-self, begins-trans, begins-long, begins-term}
 use Rattle.history.specs.Conf.{Agree, agree-map}
 use Rattle.history.specs.Alike.{alike-both, begins-alike}
 use Rattle.history.specs.InForce.{Rule, in-force-same}
 use Rattle.history.specs.History.{Leaders, History, Committed, Settled, none, by, Chained, Facts}
 use Rattle.history.specs.Lineage.{committed-reaches}
 use Rattle.history.specs.Book.{Covered, nothing, written}
-use Rattle.history.specs.Put.{put-up}
+use Rattle.history.specs.PutLaws.{put-up}
 use Rattle.history.specs.Grow.{raised, stood, gave, with-leaders, moved, Grows, won-grows, first-grows}
 
 -- All that happened has happened, leaders' logs only grew, and no box went back in its term.

@@ -16,7 +16,8 @@ use Rattle.digits.specs.Tests.{and-left, and-right}
 use Rattle.frames.specs.declared.Entry.{Entry}
 use Rattle.raft.specs.Newer.{as-new}
 use Rattle.raft.specs.Record.{term-at}
-use Rattle.history.specs.Begins.{Begins, begins-long, begins-term, begins-trans, begins-take, begins-both, begins-known}
+use Rattle.history.specs.Begins.{Begins}
+use Rattle.history.specs.BeginsLaws.{begins-long, begins-term, begins-trans, begins-take, begins-both, begins-known}
 use Rattle.history.specs.History.{History, Won, last-of, Granted, Descends, kept, lost, first-of, Committed, Before, lower, sooner, Retains, retains, beaten, Facts}
 use Rattle.history.specs.Descent.{term-take, descends-last, won-descends, won-within, never-fall, own-part}
 use Rattle.history.specs.Most.{Met}
@@ -39,6 +40,18 @@ pub record Standing (rule : Rule) (h : History) (s c : ℕ) (log : List Entry) :
 -- It holds what was committed before (t, .) with m entries: in lower terms, or in term t with fewer.
 record Sofar (rule : Rule) (h : History) (t m : ℕ) (log : List Entry) : Type 0 where
   holds : {u i j : ℕ} → Committed rule h u i j → Before u (suc j) t m → Begins (first-of h u i) log
+
+-- A candidate with agreement: whoever won a lower term, or has won this one as another box, holds what was committed below it.
+record Candidate (rule : Rule) (h : History) (s c : ℕ) (log : List Entry) : Type 0 where
+  standing : Standing rule h s c log
+  earlier : (u d : ℕ) (start : List Entry) → u < s → h .leaders .won u d start → Complete rule h u start
+  rival : (d : ℕ) (start : List Entry) → h .leaders .won s d start → (d ≡ c → ⊥) → Complete rule h s start
+
+-- What was committed below a term; a log is known to hold what was committed before it.
+record Lower (rule : Rule) (h : History) (s t n m : ℕ) (log : List Entry) : Type 0 where
+  committed : Committed rule h t n m
+  below : t < s
+  known : Sofar rule h t m log
 
 -- what came before an entry came no later than its term,
 before-low : {u m t k : ℕ} → Before u m t k → u ≤ t
@@ -143,97 +156,97 @@ module _ {rule : Rule} {h : History} (f : Facts rule h) where
 
   -- ---- one term
 
-  module _ (s c : ℕ) (log : List Entry) (x : Standing rule h s c log)
-      (earlier : (u d : ℕ) (start : List Entry) → u < s → h .leaders .won u d start → Complete rule h u start)
-      (rival : (d : ℕ) (start : List Entry) → h .leaders .won s d start → (d ≡ c → ⊥) → Complete rule h s start) where
-    descends : Descends (h .leaders) log
-    descends = f .asked-descends s c log (x .asked)
+  asked-log : {s c : ℕ} {log : List Entry} → Standing rule h s c log → Descends (h .leaders) log
+  asked-log {s} {c} {log} x = f .asked-descends s c log (x .asked)
 
-    module _ (t n m : ℕ) (y : Committed rule h t n m) (below : t < s)
-        (known : Sofar rule h t m log) where
-      -- the leader's log
-      abbrev own : List Entry
-      own = h .leaders .log t
+  module _ {s c : ℕ} {log : List Entry} (k : Candidate rule h s c log) {t n m : ℕ} (y : Lower rule h s t n m log) where
+    -- the leader's log
+    abbrev own : List Entry
+    own = h .leaders .log t
 
-      won : Won (h .leaders) t
-      won = committed-reaches f y .won
+    won : Won (h .leaders) t
+    won = committed-reaches f (y .committed) .won
 
-      -- leaders' logs of terms below s begin with (t, n)
-      later-log : {u : ℕ} → Won (h .leaders) u → t ≤ u → u < s → Begins (first-of h t n) (h .leaders .log u)
-      later-log {u} w a b = log-holds y w (earlier u (w .box) (w .start) b (w .has)) a
+    -- leaders' logs of terms below s begin with (t, n)
+    later-log : {u : ℕ} → Won (h .leaders) u → t ≤ u → u < s → Begins (first-of h t n) (h .leaders .log u)
+    later-log {u} w a b = log-holds (y .committed) w (k .earlier u (w .box) (w .start) b (w .has)) a
 
-      -- the configuration before the leader's is the candidate's too: it was committed before
-      left : Linked rule own m log (length log)
-      left = linked f (won-descends f won) (y .reach) (λ k u i j b z l a q. committed-shared z l a (known .holds z (before-more q
-          (won-within f won .at (suc k) (omega arith) (omega (arith, y .reach))) b)))
+    -- the configuration before the leader's is the candidate's too: it was committed before
+    left : Linked rule own m log (length log)
+    left =
+        linked f (won-descends f won) (y .committed .reach) (λ e u i j b z l a q. committed-shared z l a (y .known .holds z (before-more q
+        (won-within f won .at (suc e) (omega arith) (omega (arith, y .committed .reach))) b)))
 
-      -- where the candidate's log goes with a later leader's, which begins with (t, n), and does not itself
-      with-later : {p u : ℕ} → (Begins (first-of h t n) log → ⊥) → Begins (first-of h t n) (h .leaders .log u)
-          → Alike p log (h .leaders .log u) → Shared p m log own
-      with-later {p} {u} not g a = go (decLe n p)
-        where
-          with-n : Alike n own (h .leaders .log u)
-          with-n = first-alike g (committed-within y)
+    -- where the candidate's log goes with a later leader's, which begins with (t, n), and does not itself
+    with-later : {p u : ℕ} → (Begins (first-of h t n) log → ⊥) → Begins (first-of h t n) (h .leaders .log u)
+        → Alike p log (h .leaders .log u) → Shared p m log own
+    with-later {p} {u} not g a = go (decLe n p)
+      where
+        with-n : Alike n own (h .leaders .log u)
+        with-n = first-alike g (committed-within (y .committed))
 
-          go : Dec (n ≤ p) → Shared p m log own
-          go (yes v) = absurd (not (alike-first (alike-both with-n (alike-swap (alike-less a n v)))))
-          go (no v) = record { reach = omega (arith, y .within); first = alike-both a (alike-swap (alike-less with-n p (omega arith))) }
+        go : Dec (n ≤ p) → Shared p m log own
+        go (yes v) = absurd (not (alike-first (alike-both with-n (alike-swap (alike-less a n v)))))
+        go (no v) = record { reach = omega (arith, y .committed .within); first = alike-both a (alike-swap (alike-less with-n p (omega arith))) }
 
-      -- where it goes with an earlier leader's up to what that had committed: the log that won t holds it
-      with-earlier : {p u i j : ℕ} → Committed rule h u i j → u < t → p ≤ i → Alike p log (h .leaders .log u) → Shared p m log own
-      with-earlier {p} z v l a =
-          let g = committed-shared z l a (earlier t (won .box) (won .start) below (won .has) .holds z v) in
-          record {
-            reach = omega (arith, g .reach, own-part f won n (y .least) (y .own), y .within);
-            first = alike-both (g .first) (begins-alike (f .leading t (won .box) (won .start) (won .has) .begins) p (g .reach));
-          }
+    -- where it goes with an earlier leader's up to what that had committed: the log that won t holds it
+    with-earlier : {p u i j : ℕ} → Committed rule h u i j → u < t → p ≤ i → Alike p log (h .leaders .log u) → Shared p m log own
+    with-earlier {p} z v l a =
+        let g = committed-shared z l a (k .earlier t (won .box) (won .start) (y .below) (won .has) .holds z v) in
+        record {
+          reach = omega (arith, g .reach, own-part f won n (y .committed .least) (y .committed .own), y .committed .within);
+          first = alike-both (g .first) (begins-alike (f .leading t (won .box) (won .start) (won .has) .begins) p (g .reach));
+        }
 
-      -- the configuration before the candidate's is the leader's too, where the candidate's log does not begin with (t, n)
-      right : (Begins (first-of h t n) log → ⊥) → Linked rule log (length log) own m
-      right not = linked f descends (le-refl _) (λ k u i j b z l a q. go b z l a q (decLt u t))
-        where
-          go : {k u i j : ℕ} → suc k ≤ length log → Committed rule h u i j → nearest rule log k ≤ i
-              → Alike (nearest rule log k) log (h .leaders .log u) → Before u j (term-at log (suc k)) k → Dec (u < t)
-              → Shared (nearest rule log k) m log own
-          go b z l a q (yes v) = with-earlier z v l a
-          go b z l a q (no v) = with-later not (later-log (committed-reaches f z .won) (omega arith) (standing-below x b q)) a
+    -- the configuration before the candidate's is the leader's too, where the candidate's log does not begin with (t, n)
+    right : (Begins (first-of h t n) log → ⊥) → Linked rule log (length log) own m
+    right not = linked f (asked-log (k .standing)) (le-refl _) (λ e u i j b z l a q. go b z l a q (decLt u t))
+      where
+        go : {e u i j : ℕ} → suc e ≤ length log → Committed rule h u i j → nearest rule log e ≤ i
+            → Alike (nearest rule log e) log (h .leaders .log u) → Before u j (term-at log (suc e)) e → Dec (u < t)
+            → Shared (nearest rule log e) m log own
+        go b z l a q (yes v) = with-earlier z v l a
+        go b z l a q (no v) = with-later not (later-log (committed-reaches f z .won) (omega arith) (standing-below (k .standing) b q)) a
 
-      -- a box that acknowledged and granted: its log began with it, and the candidate's is at least as new
-      shown : Met (λ j. h .acked j t n) (λ j. Granted (h .granted) j s c) → Begins (first-of h t n) log
-      shown b =
-          let g = b .right .has in
-          let fair = f .fair (b .box) s c (b .right .log) g in
-          let same = f .asked-once s c log (fair .log) (x .asked) (fair .has) in
-          newer (keeps (f .keeping (b .box) t n s c (b .right .log) (b .left) g below)) (f .granted-descends (b .box) s c (b .right .log) g)
-          (newer-facts _ _ _ _ (rw same (fair .newer)))
-        where
-          keeps : {voter : List Entry} → Retains (h .leaders) t n s c voter → Begins (first-of h t n) voter
-          keeps (retains (kept p)) = p
-          keeps (retains (lost z)) = absurd (z .lacks (earlier (z .term) (z .box) (z .start) (z .below) (z .won) .holds y (z .above)))
-          keeps (beaten d start w other lacks) = absurd (lacks (rival d start w other .holds y below))
+    -- a box that acknowledged and granted: its log began with it, and the candidate's is at least as new
+    shown : Met (λ j. h .acked j t n) (λ j. Granted (h .granted) j s c) → Begins (first-of h t n) log
+    shown b =
+        let g = b .right .has in
+        let fair = f .fair (b .box) s c (b .right .log) g in
+        let same = f .asked-once s c log (fair .log) (k .standing .asked) (fair .has) in
+        newer (keeps (f .keeping (b .box) t n s c (b .right .log) (b .left) g (y .below))) (f .granted-descends (b .box) s c (b .right .log) g)
+        (newer-facts _ _ _ _ (rw same (fair .newer)))
+      where
+        keeps : {voter : List Entry} → Retains (h .leaders) t n s c voter → Begins (first-of h t n) voter
+        keeps (retains (kept p)) = p
+        keeps (retains (lost z)) = absurd (z .lacks (k .earlier (z .term) (z .box) (z .start) (z .below) (z .won) .holds (y .committed) (z .above)))
+        keeps (beaten d start w other lacks) = absurd (lacks (k .rival d start w other .holds (y .committed) (y .below)))
 
-          newer : {voter : List Entry} → Begins (first-of h t n) voter → Descends (h .leaders) voter
-              → Newer (length log) (last-of log) (length voter) (last-of voter) → Begins (first-of h t n) log
-          newer p d (as-long e l) = same-last y p d descends e l
-          newer {voter} p d (higher less) =
-              let some = last-some log (omega arith) in
-              let low = never-fall f d n (length voter) (held y p .long) (omega arith) in
-              let past : t < last-of log = omega (arith, held y p .term) in
-              let v = descends .at (length log) some (omega arith) .won in
-              later-last y descends some past (later-log v (omega arith) (f .asked-below s c log (x .asked) (length log) some (omega arith)))
+        newer : {voter : List Entry} → Begins (first-of h t n) voter → Descends (h .leaders) voter
+            → Newer (length log) (last-of log) (length voter) (last-of voter) → Begins (first-of h t n) log
+        newer p d (as-long e l) = same-last (y .committed) p d (asked-log (k .standing)) e l
+        newer {voter} p d (higher less) =
+            let some = last-some log (omega arith) in
+            let low = never-fall f d n (length voter) (held (y .committed) p .long) (omega arith) in
+            let past : t < last-of log = omega (arith, held (y .committed) p .term) in
+            let v = asked-log (k .standing) .at (length log) some (omega arith) .won in
+            later-last (y .committed) (asked-log (k .standing)) some past
+            (later-log v (omega arith) (f .asked-below s c log (k .standing .asked) (length log) some (omega arith)))
 
-      -- so it does: else the two configurations are near, and such a box there is
-      turn : Begins (first-of h t n) log
-      turn = go (begins-known (first-of h t n) log)
-        where
-          go : Dec (Begins (first-of h t n) log) → Begins (first-of h t n) log
-          go (yes p) = p
-          go (no not) = shown (meets (near-logs left (right not)) (y .agree) (x .agree))
+    -- so it does: else the two configurations are near, and such a box there is
+    turn : Begins (first-of h t n) log
+    turn = go (begins-known (first-of h t n) log)
+      where
+        go : Dec (Begins (first-of h t n) log) → Begins (first-of h t n) log
+        go (yes p) = p
+        go (no not) = shown (meets (near-logs left (right not)) (y .committed .agree) (k .standing .agree))
 
+  module _ {s c : ℕ} {log : List Entry} (k : Candidate rule h s c log) where
     -- within one term, by the length of its leader's log
     lengths : (t : ℕ) → t < s → Complete rule h t log → (bound n m : ℕ) → Committed rule h t n m → m < bound → Begins (first-of h t n) log
     lengths t a less zero n m y l = absurd (omega arith)
-    lengths t a less (suc bound) n m y l = turn t n m y a (record { holds = λ z b. go (lengths t a less bound) z b })
+    lengths t a less (suc bound) n m y l =
+        turn k (record { committed = y; below = a; known = record { holds = λ z b. go (lengths t a less bound) z b } })
       where
         go : ((i j : ℕ) → Committed rule h t i j → j < bound → Begins (first-of h t i) log) → {u i j : ℕ} → Committed rule h u i j
             → Before u (suc j) t m → Begins (first-of h u i) log
@@ -263,8 +276,11 @@ module _ {rule : Rule} {h : History} (f : Facts rule h) where
   winners : (bound u d : ℕ) (start : List Entry) → u < bound → h .leaders .won u d start → Complete rule h u start
   winners zero u d start l w = absurd (omega arith)
   winners (suc bound) u d start l w =
-      one-complete u d start (won-standing w) (λ v e other a x. winners bound v e other (omega arith) x)
-      (λ e other x not. absurd (not (f .won-once u e d other start x w)))
+      one-complete (record {
+        standing = won-standing w;
+        earlier = λ v e other a x. winners bound v e other (omega arith) x;
+        rival = λ e other x not. absurd (not (f .won-once u e d other start x w));
+      })
 
   -- **Every term was won with a log that holds what was committed below it,**
   pub leader-complete : (s c : ℕ) (start : List Entry) → h .leaders .won s c start → Complete rule h s start
@@ -273,7 +289,11 @@ module _ {rule : Rule} {h : History} (f : Facts rule h) where
   -- and so does whoever could win it.
   pub standing-complete : {s c : ℕ} {log : List Entry} → Standing rule h s c log → Complete rule h s log
   standing-complete {s} {c} {log} x =
-      one-complete s c log x (λ u d start a w. leader-complete u d start w) (λ d start w not. leader-complete s d start w)
+      one-complete (record {
+        standing = x;
+        earlier = λ u d start a w. leader-complete u d start w;
+        rival = λ d start w not. leader-complete s d start w;
+      })
 
   -- ---- two in one term
 

@@ -5,6 +5,7 @@
 -- election, a leader's commit and the alarms, as `safety` needs them, which is at `fixed`; and four examples: that the facts can hold, what they
 -- do not say, a change of membership, and why a vote that is given late does not count.
 pub mod Begins
+pub mod BeginsLaws
 pub mod Most
 pub mod Conf
 pub mod Alike
@@ -16,6 +17,7 @@ pub mod Lineage
 pub mod LeaderComplete
 pub mod Book
 pub mod Put
+pub mod PutLaws
 pub mod Grow
 pub mod Later
 pub mod GrowVotes

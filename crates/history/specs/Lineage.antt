@@ -8,7 +8,7 @@ use lib.ListN.{length}
 use lib.Seq.{length-take-le}
 use Rattle.frames.specs.declared.Entry.{Entry}
 use Rattle.raft.specs.Record.{term-at}
-use Rattle.history.specs.Begins.{begins-long, begins-term}
+use Rattle.history.specs.BeginsLaws.{begins-long, begins-term}
 use Rattle.history.specs.History.{History, Descends, Reaches, Committed, Before, Settled, none, by, Follows, Facts}
 use Rattle.history.specs.Descent.{term-take, own-part}
 use Rattle.history.specs.Conf.{Extends, agree-some}

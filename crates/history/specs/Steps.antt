@@ -13,10 +13,11 @@ use borrow.Author.Tests.{le-ltb, le-leb, eq-eqb}
 use Rattle.frames.specs.declared.Entry.{Entry}
 use Rattle.raft.specs.Newer.{as-new}
 use Rattle.raft.specs.Append.{lacks, joined}
-use Rattle.history.specs.Begins.{begins-self, begins-added, begins-long}
+use Rattle.history.specs.BeginsLaws.{begins-self, begins-added, begins-long}
 use Rattle.history.specs.History.{History, Won, Granted, Fair, last-of, Facts}
 use Rattle.history.specs.Join.{Offered, offered-long, stays, follows, joined-joins}
-use Rattle.history.specs.Put.{put, put-same}
+use Rattle.history.specs.Put.{put}
+use Rattle.history.specs.PutLaws.{put-same}
 use Rattle.history.specs.Grow.{asks-now, raised, gave, stood, with-leaders, winner, longer, moved, won-grows}
 use Rattle.history.specs.Conf.{Agree}
 use Rattle.history.specs.InForce.{Rule, in-force}

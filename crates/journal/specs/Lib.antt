@@ -9,6 +9,7 @@ pub mod OpeningLaws
 pub mod KeptLaws
 pub mod StepMoves
 pub mod StepLine
+pub mod Longest
 pub mod LongestLaws
 pub mod ReplayLaws
 pub mod OpeningExactly

@@ -1,5 +1,5 @@
--- The longest that a step of a good record writes: a journal line with four entries, and six appends with four entries each. Assumes nothing.
-use Prim.Native.Nat.{ℕ, zero, suc, _+_, _-_, _*_, _≤_, _<_}
+-- What a step of a good record writes is no longer than Longest says. Assumes nothing.
+use Prim.Native.Nat.{ℕ, zero, suc, _+_, _*_, _≤_, _<_}
 use native.Mathlib.Omega.{arith}
 use mathlib.Core.Path.{_≡_, refl}
 use mathlib.Core.Bool.{Bool, true, false, cond}
@@ -30,16 +30,9 @@ use Rattle.raft.specs.StepLaws.{timeout-ends, order-ends, prompt-ends}
 use Rattle.raft.specs.SendLaws.{All, Obey}
 use Rattle.raft.specs.ReceiveLaws.{Ends, vote-request-ends, vote-answer-ends, append-ends, append-answer-ends, Arrives, receive-ends, offer-facts}
 use Rattle.raft.specs.EventLaws.{step-obeys}
+unfoldable pub use Rattle.journal.specs.Longest.{longest-line, longest-messages}
 use Rattle.journal.specs.LineSpelling.{line-lined, length-lined, line-chars}
 use Rattle.journal.specs.StepMoves.{Moved, step-moves}
-
--- A journal line with four entries,
-abbrev pub longest-line : ℕ
-longest-line = 23 + 24 * entry-limit
-
--- and a message with four entries to each of six other boxes.
-abbrev pub longest-messages : ℕ
-longest-messages = (boxes - 1) * longest-message
 
 -- What a step from s to t writes is no longer: its line, and its messages.
 pub record Longest (s t : State) (ms : List Message) : Type 0 where

@@ -11,7 +11,7 @@ use Rattle.frames.specs.Reading.{frame, reading}
 use Rattle.raft.specs.Record.{State, leader, handed-out}
 use Rattle.raft.specs.SendLaws.{All}
 use Rattle.history.specs.InForce.{fixed}
-use Rattle.history.specs.Begins.{Begins, begins-trans, begins-nothing}
+use Rattle.history.specs.Begins.{Begins}
 use Rattle.history.specs.History.{History}
 use Rattle.history.specs.Grow.{first-grows}
 use Rattle.history.specs.Later.{Later}
@@ -22,7 +22,6 @@ use Rattle.safety.specs.Carried.{Kept}
 use Rattle.safety.specs.Endings.{Ending}
 use Rattle.safety.specs.Next.{Known}
 use Rattle.safety.specs.HandsOut.{HandsOut, leads, same, carried, ending-hands, FromLeader, IfAppend, ending-appends}
-use Rattle.safety.specs.Runs.{Runs, InBook, empty, begins}
 
 -- Each append that was sent carries what is in a book.
 abbrev pub Carrying : (List Entry → Type 0) → History → List (List ℕ) → Type 0
@@ -34,11 +33,6 @@ Carrying B h sent =
 pub record Booked (B : List Entry → Type 0) (h : History) (box : ℕ → State) (sent : List (List ℕ)) : Type 0 where
   pub boxes : (j : ℕ) → B (handed-out (box j))
   pub appends : Carrying B h sent
-
--- A beginning of what is in the book is in it.
-pub in-book-less : (R : Runs) {now : R .Moment} {run : R .Run (R .first) now} {a b : List Entry} → Begins a b → InBook R run b → InBook R run a
-in-book-less R x (empty e) = empty (begins-nothing (rw e at x))
-in-book-less R x (begins moment until on whole i term l y) = begins moment until on whole i term l (begins-trans x y)
 
 module _ {B C : List Entry → Type 0} (more : (log : List Entry) → B log → C log) where
   -- What the box that has moved hands out, where it is in the book if the box leads.

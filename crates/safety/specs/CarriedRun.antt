@@ -12,7 +12,7 @@ use Rattle.raft.specs.Record.{State, fresh, is-membership}
 use Rattle.raft.specs.SendLaws.{All}
 use Rattle.history.specs.InForce.{fixed}
 use Rattle.history.specs.History.{History}
-use Rattle.history.specs.Put.{put-all}
+use Rattle.history.specs.PutLaws.{put-all}
 use Rattle.history.specs.Handed.{hands-nothing}
 use Rattle.history.specs.Steps.{fresh-park, fresh-facts}
 use Rattle.history.specs.Later.{Later, later-self, later-trans}

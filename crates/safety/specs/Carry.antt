@@ -125,7 +125,7 @@ ending-next k told (votes-not from term) =
 ending-next k told (wins from to term reply c n most) = won-next (counted-known k told from to term reply c n) (n .stands) most
 ending-next k told (counts from to term reply c n) = next-same k (counted-known k told from to term reply c n .kept) tt
 ending-next {h = h} {s = s} k told (declines from) = next-same k (k .kept) (append-no-tells _ h s from)
-ending-next k told (wants from term) =
+ending-next k told (wants from term look) =
     taken-next term following (λ u. append-answer-to (following u) from 0 false ∷ []) k
     (λ more u e l n. following-next n (append-no-tells _ more (following u) from))
 ending-next k told (joins from to term index prior commit es c l has) = joins-next k told from to term index prior commit es c l has

@@ -11,7 +11,7 @@ use Rattle.raft.specs.SendLaws.{All}
 use Rattle.raft.specs.Append.{lacks, joined, joining, append-answer-to}
 use Rattle.history.specs.InForce.{fixed}
 use Rattle.history.specs.History.{History}
-use Rattle.history.specs.Put.{put-same}
+use Rattle.history.specs.PutLaws.{put-same}
 use Rattle.history.specs.Grow.{moved}
 use Rattle.history.specs.Steps.{accepts}
 use Rattle.history.specs.Told.{Sending, Tells}

@@ -23,11 +23,11 @@ use Rattle.raft.specs.StepLaws.{good-settle, good-ordered}
 use Rattle.raft.specs.AppendAnswer.{match-after, heard}
 use Rattle.raft.specs.ReceiveLaws.{set-most}
 use Rattle.history.specs.InForce.{Rule, fixed, in-force-fixed}
-use Rattle.history.specs.Begins.{begins-take, begins-added}
+use Rattle.history.specs.BeginsLaws.{begins-take, begins-added}
 use Rattle.history.specs.History.{History, Facts}
 use Rattle.history.specs.Handed.{hands-longer}
 use Rattle.history.specs.Settled.{settled-hands}
-use Rattle.history.specs.Put.{put-same}
+use Rattle.history.specs.PutLaws.{put-same}
 use Rattle.history.specs.Grow.{with-leaders, longer, moved}
 use Rattle.history.specs.GrowLeaders.{may-fixed}
 use Rattle.history.specs.Steps.{adds, adds-facts, adds-later}

@@ -19,7 +19,7 @@ use Rattle.raft.specs.StepLaws.{none-of-box, good-standing, good-leading}
 use Rattle.history.specs.InForce.{fixed, agree-fixed}
 use Rattle.history.specs.History.{History}
 use Rattle.history.specs.Handed.{hands-higher}
-use Rattle.history.specs.Put.{put-same}
+use Rattle.history.specs.PutLaws.{put-same}
 use Rattle.history.specs.Grow.{stood, Votes, gave, with-leaders, winner, moved}
 use Rattle.history.specs.Steps.{asks, asks-facts, wins, asks-later}
 use Rattle.history.specs.Told.{Tells, hands-later}

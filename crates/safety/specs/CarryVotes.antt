@@ -17,7 +17,7 @@ use Rattle.raft.specs.SendLaws.{All}
 use Rattle.raft.specs.VoteRequest.{voting, vote-answer-to}
 use Rattle.raft.specs.VoteAnswer.{adding}
 use Rattle.history.specs.History.{History, Fair}
-use Rattle.history.specs.Put.{put-same}
+use Rattle.history.specs.PutLaws.{put-same}
 use Rattle.history.specs.Grow.{raised, Votes, gave}
 use Rattle.history.specs.Steps.{gives, gives-facts, gives-later}
 use Rattle.history.specs.Later.{Later}

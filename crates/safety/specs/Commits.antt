@@ -16,7 +16,8 @@ use Rattle.raft.specs.Prompt.{prompt}
 use Rattle.raft.specs.Append.{lacks, agreed, stop, passes, joined, cuts-committed, joining, on-append}
 use Rattle.raft.specs.AppendAnswer.{match-after, next-heard, heard, sends-again, answered, hear, on-append-answer}
 use Rattle.raft.specs.Event.{takes-order, is-prompted, receives}
-use Rattle.history.specs.Begins.{Begins, begins-long}
+use Rattle.history.specs.Begins.{Begins}
+use Rattle.history.specs.BeginsLaws.{begins-long}
 use Rattle.safety.specs.Park.{Park, after, Move, steps, Run, stays, moves, run-both, Reached, Leads}
 use Rattle.safety.specs.Runs.{parks}
 use Rattle.safety.specs.Demand3.{Demand3}
@@ -39,12 +40,12 @@ added = settle (ordered box-1-leads 50)
 abbrev pub fourth : Park
 fourth = after third 1 added (appends added)
 
-to-fourth : Move 7 third fourth
+unfoldable pub to-fourth : Move 7 third fourth
 unfolding opens
 to-fourth = steps 1 refl (takes-order 50) (omega arith) added (appends added) refl
 
 -- box 2 takes it up,
-abbrev offer : Message
+abbrev pub offer : Message
 offer = append 1 2 1 0 0 0 (entry ∷ [])
 
 abbrev pub joined-up : State
@@ -53,7 +54,7 @@ joined-up = joining box-2-votes 0 0 (entry ∷ [])
 abbrev pub fifth : Park
 fifth = after fourth 2 joined-up (append-answer 2 1 1 1 1 ∷ [])
 
-to-fifth : Move 7 fourth fifth
+unfoldable pub to-fifth : Move 7 fourth fifth
 unfolding opens
 to-fifth =
     steps 2 refl (receives (text offer)) (List·Memᴰ·head refl) joined-up (append-answer 2 1 1 1 1 ∷ [])
@@ -66,18 +67,18 @@ committed = settle (heard added 2 1 1)
 abbrev pub sixth : Park
 sixth = after fifth 1 committed []
 
-to-sixth : Move 7 fifth sixth
+unfoldable pub to-sixth : Move 7 fifth sixth
 unfolding opens
 to-sixth =
     steps 1 refl (receives (text (append-answer 2 1 1 1 1))) (List·Memᴰ·head refl) committed []
     (arrives added committed (append-answer 2 1 1 1 1) [] refl (omega arith) refl)
 
 -- the run in which the leader commits
-pub commit-run : Run 7 third sixth
+unfoldable pub commit-run : Run 7 third sixth
 commit-run = moves (moves (moves stays to-fourth) to-fifth) to-sixth
 
 -- tells so,
-abbrev seventh : Park
+abbrev pub seventh : Park
 seventh = after sixth 1 committed (appends committed)
 
 to-seventh : Move 7 sixth seventh
@@ -85,13 +86,13 @@ unfolding opens
 to-seventh = steps 1 refl is-prompted tt committed (appends committed) refl
 
 -- and box 2 hands it out.
-abbrev news : Message
+abbrev pub news : Message
 news = append 1 2 1 1 1 1 []
 
-abbrev handing : State
+abbrev pub handing : State
 handing = joining joined-up 1 1 []
 
-abbrev eighth : Park
+abbrev pub eighth : Park
 eighth = after seventh 2 handing (append-answer 2 1 1 1 1 ∷ [])
 
 to-eighth : Move 7 seventh eighth

@@ -1,5 +1,5 @@
 -- Demand 3's run with the boxes' disks: power fails at any byte, and a box comes back by opening what is there. Assumes nothing.
-use Prim.Native.Nat.{ℕ, _+_}
+use Prim.Native.Nat.{ℕ, _+_, _≤_, _<_}
 use mathlib.Core.Path.{_≡_}
 use mathlib.Core.Bool.{true}
 use mathlib.Core.List.{List, [], _++_}
@@ -14,7 +14,7 @@ use Rattle.journal.specs.Opening.{opened, opening}
 use Rattle.history.specs.Put.{put}
 use Rattle.safety.specs.Park.{Comes, frames}
 
--- A box with its disk, and the place on it at which the next line is written.
+-- A box with its disk, and the place on it at which the next line is written: 0 while no whole head is on it.
 pub record Seat : Type 0 where
   pub now : State
   pub disk : List ℕ
@@ -25,10 +25,14 @@ pub record Site : Type 0 where
   pub seat : ℕ → Seat
   pub sent : List (List ℕ)
 
--- "Take any run of fresh boxes with the same fixed membership and different numbers." Each has its head on its disk. ("No event is taken before the
--- head is whole; a box whose head was torn is started again.")
+-- "Take any run of fresh boxes with the same fixed membership and different numbers." Nothing is on the disks yet: each box is started in the run, at
+-- any moment of it, or never. (Its record is fresh until then too; no event comes to it.)
 unfoldable pub built : ℕ → Site
-built mask = record { seat = λ i. record { now = fresh i mask; disk = head i mask; place = length (head i mask) }; sent = [] }
+built mask = record { seat = λ i. record { now = fresh i mask; disk = []; place = 0 }; sent = [] }
+
+-- The box has been started: its head is whole.
+abbrev pub Started : Seat → Type 0
+Started b = 1 ≤ b .place
 
 -- A seat's disk with bytes written at the place.
 abbrev pub written : Seat → List ℕ → List ℕ
@@ -40,8 +44,14 @@ seated a i b messages = record { seat = put (a .seat) i b; sent = frames message
 
 -- What may happen at a site, to one member.
 pub data Happens (mask : ℕ) (a : Site) : Site → Type 0 where
-  -- "a step counts, and its messages leave, only once its line, if any, is whole"
-  steps : (i : ℕ) → is-membership i mask ≡ true → (e : Event) → Comes (a .sent) e → (t : State) (messages : List Message)
+  -- a box is started, or, its head having been torn, started again: the head is written from the disk's first byte on
+  starts : (i : ℕ) → is-membership i mask ≡ true → a .seat i .place ≡ 0
+      → Happens mask a (seated a i (record { now = fresh i mask; disk = over (a .seat i .disk) 0 (head i mask); place = length (head i mask) }) [])
+  -- and power fails in that, when so many of its bytes are written: opening such a disk answers 11 (`ParkOnDisk.torn-answered`)
+  tears : (i : ℕ) → is-membership i mask ≡ true → a .seat i .place ≡ 0 → (k : ℕ) → k < length (head i mask)
+      → Happens mask a (seated a i (record { now = fresh i mask; disk = over (a .seat i .disk) 0 (take k (head i mask)); place = 0 }) [])
+  -- "a step counts, and its messages leave, only once its line, if any, is whole"; "No event is taken before the head is whole"
+  steps : (i : ℕ) → is-membership i mask ≡ true → Started (a .seat i) → (e : Event) → Comes (a .sent) e → (t : State) (messages : List Message)
       → step e (a .seat i .now) ≡ done t messages
       → Happens mask a (seated a i (record {
         now = t;
@@ -50,7 +60,7 @@ pub data Happens (mask : ℕ) (a : Site) : Site → Type 0 where
       }) messages)
   -- "Power may fail at any byte of a journal line .. Whole lines stay, and a box comes back only by its journal": so many bytes of a step's line
   -- are on the disk, nothing was sent, and the journal is opened
-  fails : (i : ℕ) → is-membership i mask ≡ true → (e : Event) → Comes (a .sent) e → (t : State) (messages : List Message)
+  fails : (i : ℕ) → is-membership i mask ≡ true → Started (a .seat i) → (e : Event) → Comes (a .sent) e → (t : State) (messages : List Message)
       → step e (a .seat i .now) ≡ done t messages → (k : ℕ) (u : State) (n : ℕ)
       → opening i (written (a .seat i) (take k (journaled (a .seat i .now) t))) ≡ opened u n
       → Happens mask a (seated a i (record { now = u; disk = written (a .seat i) (take k (journaled (a .seat i .now) t)); place = n }) [])

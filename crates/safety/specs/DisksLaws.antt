@@ -1,73 +1,140 @@
 -- A run with disks is a run of a park: whatever byte power fails at, a box comes back as `restarted` says. Assumes nothing.
-use Prim.Native.Nat.{ℕ, _+_}
+use Prim.Native.Nat.{ℕ, _+_, _≤_, _<_}
+use native.Mathlib.Omega.{arith}
 use mathlib.Core.Path.{_≡_, refl, sym, ap, _∙_}
 use mathlib.Core.Bool.{true}
-use mathlib.Core.List.{List, [], _++_, List·Memᴰ, Memᴰ·append-left, Memᴰ·append-right, List·Memᴰ·append-cases}
+use mathlib.Core.List.{List, [], _++_, append-nil, Memᴰ·append-right}
 use mathlib.Core.Logic.{_⊎_, inl, inr}
-use lib.ListN.{length, take}
+use lib.Dec.{eqb}
+use lib.ListN.{length, take, drop, length-append, length-take, length-drop, drop-of-length-le}
+use Rattle.digits.specs.Room.{over}
 use Rattle.frames.specs.Message.{Message}
-use Rattle.raft.specs.Record.{State, is-membership}
-use Rattle.raft.specs.Journal.{journaled}
+use Rattle.raft.specs.Record.{State, fresh, is-membership}
+use Rattle.raft.specs.Journal.{head, journaled}
 use Rattle.raft.specs.Outcome.{done}
-use Rattle.raft.specs.Event.{Event, times-out, takes-order, is-prompted, receives, step}
-use Rattle.journal.specs.LineSpelling.{head-nine}
-use Rattle.journal.specs.Opening.{restarted, opened, opening}
+use Rattle.raft.specs.Event.{Event, step}
+use Rattle.raft.specs.SendLaws.{All}
+use Rattle.raft.specs.FitLaws.{all-take, all-drop}
+use Rattle.raft.specs.ReceiveSends.{all-both}
+use Rattle.journal.specs.LinesLaws.{Feedless, lines-none}
+use Rattle.journal.specs.LineSpelling.{head-nine, head-whole}
+use Rattle.journal.specs.Opening.{restarted, opened, headless, refusal, opening, open-lines}
 use Rattle.journal.specs.Runs.{Step}
-use Rattle.journal.specs.LifeLaws.{Life, life-opens, life-fails}
-use Rattle.history.specs.Put.{put, put-same, put-other, put-all}
+use Rattle.journal.specs.TornLaws.{cut-whole}
+use Rattle.journal.specs.LifeLaws.{Life, life-kept, life-opens, life-fails}
+use Rattle.history.specs.Put.{put}
+use Rattle.history.specs.PutLaws.{put-same, put-other, put-all}
 use Rattle.safety.specs.Park.{Park, start, Comes, frames, after, Move, Run, run-both}
+use Rattle.safety.specs.Sent.{Among, wider, among-more}
 use Rattle.safety.specs.Proper.{event-steps}
-use Rattle.safety.specs.Disks.{Seat, Site, built, written, seated, Happens, steps, fails, reopens, trims, Goes, stays, goes}
+use Rattle.safety.specs.Disks.{Seat, Site, built, Started, written, seated, Happens, starts, tears, steps, fails, reopens, trims, Goes, stays, goes}
 
--- ---- events
+-- ---- a seat
 
--- Frames that are among others.
-abbrev pub Among : List (List ℕ) → List (List ℕ) → Type 0
-Among few many = (bytes : List ℕ) → List·Memᴰ bytes few → List·Memᴰ bytes many
+-- A box that waits for its head: nothing of it is whole, and it has taken no event.
+pub record Awaits (i mask : ℕ) (b : Seat) : Type 0 where
+  pub nowhere : b .place ≡ 0
+  pub untouched : b .now ≡ fresh i mask
+  pub short : length (b .disk) < 9
+  pub free : Feedless (b .disk)
 
--- An event may come where more was sent.
-pub wider : {few many : List (List ℕ)} → Among few many → (e : Event) → Comes few e → Comes many e
-wider w times-out c = tt
-wider w (takes-order o) c = c
-wider w is-prompted c = tt
-wider w (receives bytes) c = w bytes c
+-- A seat waits, or has its head and its life.
+pub data Stored (i mask : ℕ) (b : Seat) : Type 0 where
+  awaits : Awaits i mask b → Stored i mask b
+  lives : Life i mask (b .now) (b .place) (b .disk) → Stored i mask b
 
--- More frames on either side.
-pub among-more : (new few many : List (List ℕ)) → Among few many → Among (new ++ few) (new ++ many)
-among-more new few many w bytes m = go (List·Memᴰ·append-cases new m)
-  where
-    go : List·Memᴰ bytes new ⊎ List·Memᴰ bytes few → List·Memᴰ bytes (new ++ many)
-    go (inl a) = Memᴰ·append-left many a
-    go (inr b) = Memᴰ·append-right new (w bytes b)
+-- **What waits opens with 11:** the disk has no whole line.
+pub torn-head : (i mask : ℕ) (b : Seat) → Awaits i mask b → opening i (b .disk) ≡ headless
+unfolding opening open-lines
+torn-head i mask b w = rw (lines-none (b .disk) (w .free))
+
+-- What has a life has its head.
+pub life-started : (i mask : ℕ) (s : State) (n : ℕ) (disk : List ℕ) → Life i mask s n disk → 1 ≤ n
+life-started i mask s n disk l =
+    let d = life-kept i mask s n disk l .1 in
+    omega (arith, d .count, length-append (head i mask) (d .journal), head-nine i mask)
+
+-- So a seat that was started, or that opens, lives,
+pub started-lives : {i mask : ℕ} {b : Seat} → Stored i mask b → Started b → Life i mask (b .now) (b .place) (b .disk)
+started-lives (awaits w) up = absurd (omega (arith, w .nowhere, up))
+started-lives (lives l) up = l
+
+pub opened-lives : {i mask : ℕ} {b : Seat} {u : State} {n : ℕ} → Stored i mask b → opening i (b .disk) ≡ opened u n
+    → Life i mask (b .now) (b .place) (b .disk)
+unfolding refusal
+opened-lives {i} {mask} {b} (awaits w) h = absurd (omega (arith, ap refusal (sym (torn-head i mask b w) ∙ h)))
+opened-lives (lives l) h = l
+
+-- and one with no place waits.
+pub none-awaits : {i mask : ℕ} {b : Seat} → Stored i mask b → b .place ≡ 0 → Awaits i mask b
+none-awaits (awaits w) z = w
+none-awaits {i} {mask} {b} (lives l) z = absurd (omega (arith, z, life-started i mask (b .now) (b .place) (b .disk) l))
+
+-- Where the head is written on it, whole, it lives;
+pub starts-lives : {i mask : ℕ} {b : Seat} → is-membership i mask ≡ true → Awaits i mask b
+    → Life i mask (fresh i mask) (length (head i mask)) (over (b .disk) 0 (head i mask))
+unfolding over
+starts-lives {i} {mask} {b} m w =
+    let nine = head-nine i mask in
+    let past : length (b .disk) ≤ 0 + length (head i mask) = omega (arith, w .short) in
+    rw (drop-of-length-le (b .disk) past, append-nil (head i mask), nine) (Life.starts m)
+
+-- a part of it, and it waits still,
+tears-awaits : {i mask : ℕ} {b : Seat} (k : ℕ) → k < length (head i mask) → Awaits i mask b
+    → Awaits i mask (record { now = fresh i mask; disk = over (b .disk) 0 (take k (head i mask)); place = 0 })
+unfolding over
+tears-awaits {i} {mask} {b} k l w =
+    record {
+      nowhere = refl;
+      untouched = refl;
+      short = simp (length-append, length-take, length-drop) (omega (arith, w .short, head-nine i mask));
+      free = all-both _ (take k (head i mask)) _ (cut-whole (head i mask) (head-whole i mask) k l)
+          (all-drop _ (0 + length (take k (head i mask))) (b .disk) (w .free));
+    }
+
+-- as it does where it is cut.
+trims-awaits : {i mask : ℕ} {b : Seat} (k : ℕ) → Awaits i mask b
+    → Awaits i mask (record { now = b .now; disk = take (b .place + k) (b .disk); place = b .place })
+trims-awaits {b = b} k w =
+    record {
+      nowhere = w .nowhere;
+      untouched = w .untouched;
+      short = simp length-take (omega (arith, w .short));
+      free = all-take _ (b .place + k) (b .disk) (w .free);
+    }
 
 -- ---- a site and a park
 
--- A site stands as a park: the same records, all that was sent, and each disk is of its box's life.
+-- A site stands as a park: the same records, all that was sent, and each seat waits or lives.
 pub record Mirrors (mask : ℕ) (a : Site) (p : Park) : Type 0 where
   pub same : (i : ℕ) → a .seat i .now ≡ p .box i
   pub known : Among (a .sent) (p .sent)
-  pub lives : (i : ℕ) → is-membership i mask ≡ true → Life i mask (a .seat i .now) (a .seat i .place) (a .seat i .disk)
+  pub stored : (i : ℕ) → is-membership i mask ≡ true → Stored i mask (a .seat i)
 
 -- One seat changes as the park's record does.
 mirrors-put : (mask : ℕ) (a : Site) (p : Park) (i : ℕ) (b : Seat) (t : State) (ms ns : List Message)
     → ((j : ℕ) → (j ≡ i → ⊥) → a .seat j .now ≡ p .box j)
-    → ((j : ℕ) → is-membership j mask ≡ true → Life j mask (a .seat j .now) (a .seat j .place) (a .seat j .disk))
-    → b .now ≡ t → Life i mask (b .now) (b .place) (b .disk) → Among (frames ms ++ a .sent) (frames ns ++ p .sent)
+    → ((j : ℕ) → is-membership j mask ≡ true → Stored j mask (a .seat j))
+    → b .now ≡ t → Stored i mask b → Among (frames ms ++ a .sent) (frames ns ++ p .sent)
     → Mirrors mask (seated a i b ms) (after p i t ns)
 unfolding seated after
-mirrors-put mask a p i b t ms ns others lives e l w =
+mirrors-put mask a p i b t ms ns others stored e l w =
     record {
       same = put-all (λ j x. x .now ≡ put (p .box) i t j) (a .seat) i b (e ∙ sym (put-same (p .box) i t))
           (λ j n. others j n ∙ sym (put-other (p .box) i t j n));
       known = w;
-      lives = put-all (λ j x. is-membership j mask ≡ true → Life j mask (x .now) (x .place) (x .disk)) (a .seat) i b (λ m. l) (λ j n. lives j);
+      stored = put-all (λ j x. is-membership j mask ≡ true → Stored j mask x) (a .seat) i b (λ m. l) (λ j n. stored j);
     }
 
 -- A site that is built stands as a park at its start.
 pub built-mirrors : (mask : ℕ) → Mirrors mask (built mask) (start mask)
-unfolding built start
+unfolding built start All
 built-mirrors mask =
-    record { same = λ i. refl; known = λ bytes m. m; lives = λ i m. rw (head-nine i mask) (Life.starts m) }
+    record {
+      same = λ i. refl;
+      known = λ bytes m. m;
+      stored = λ i m. awaits (record { nowhere = refl; untouched = refl; short = omega arith; free = tt });
+    }
 
 -- ---- what happens at the site is a run of the park
 
@@ -86,21 +153,20 @@ module _ (mask : ℕ) (a : Site) (p : Park) (s : Mirrors mask a p) (i : ℕ) (m 
       record {
         park = after p i (restarted (p .box i)) [];
         run = Run.moves Run.stays (Move.restarts i m);
-        mirrors = mirrors-put mask a p i _ _ [] [] (λ j k. s .same j) (s .lives) (e ∙ ap restarted (s .same i)) l (s .known);
+        mirrors = mirrors-put mask a p i _ _ [] [] (λ j k. s .same j) (s .stored) (e ∙ ap restarted (s .same i)) (lives l) (s .known);
       }
 
-  -- A cut behind the place is nothing to the park.
-  on-trimmed : (n : ℕ) (disk : List ℕ) → Life i mask (a .seat i .now) n disk
-      → RunsOn mask p (seated a i (record { now = a .seat i .now; disk = disk; place = n }) [])
+  -- What leaves the record is nothing to the park.
+  on-same : (b : Seat) → b .now ≡ a .seat i .now → Stored i mask b → RunsOn mask p (seated a i b [])
   unfolding seated frames
-  on-trimmed n disk l =
+  on-same b e l =
       record {
         park = p;
         run = Run.stays;
         mirrors = record {
-          same = put-all (λ j x. x .now ≡ p .box j) (a .seat) i _ (s .same i) (λ j k. s .same j);
+          same = put-all (λ j x. x .now ≡ p .box j) (a .seat) i _ (e ∙ s .same i) (λ j k. s .same j);
           known = s .known;
-          lives = put-all (λ j x. is-membership j mask ≡ true → Life j mask (x .now) (x .place) (x .disk)) (a .seat) i _ (λ k. l) (λ j k. s .lives j);
+          stored = put-all (λ j x. is-membership j mask ≡ true → Stored j mask x) (a .seat) i _ (λ k. l) (λ j k. s .stored j);
         };
       }
 
@@ -116,7 +182,7 @@ module _ (mask : ℕ) (a : Site) (p : Park) (s : Mirrors mask a p) (i : ℕ) (m 
         record {
           park = after p i t ms;
           run = Run.moves Run.stays on-moved;
-          mirrors = mirrors-put mask a p i _ _ ms ms (λ j k. s .same j) (s .lives) refl l (among-more (frames ms) (a .sent) (p .sent) (s .known));
+          mirrors = mirrors-put mask a p i _ _ ms ms (λ j k. s .same j) (s .stored) refl (lives l) (among-more (frames ms) (a .sent) (p .sent) (s .known));
         }
 
     -- and one whose line was whole when power failed is a step and a restart: its messages were lost.
@@ -127,17 +193,26 @@ module _ (mask : ℕ) (a : Site) (p : Park) (s : Mirrors mask a p) (i : ℕ) (m 
         record {
           park = after (after p i t ms) i (restarted (put (p .box) i t i)) [];
           run = Run.moves (Run.moves Run.stays on-moved) (Move.restarts i m);
-          mirrors = mirrors-put mask a (after p i t ms) i _ _ [] [] (λ j k. s .same j ∙ sym (put-other (p .box) i t j k)) (s .lives)
-              (r ∙ ap restarted (sym (put-same (p .box) i t))) l (λ bytes x. Memᴰ·append-right (frames ms) (s .known bytes x));
+          mirrors = mirrors-put mask a (after p i t ms) i _ _ [] [] (λ j k. s .same j ∙ sym (put-other (p .box) i t j k)) (s .stored)
+              (r ∙ ap restarted (sym (put-same (p .box) i t))) (lives l) (λ bytes x. Memᴰ·append-right (frames ms) (s .known bytes x));
         }
 
 -- **Whatever happens at a site, its park runs on.**
 pub happens-on : (mask : ℕ) (a b : Site) (p : Park) → Mirrors mask a p → Happens mask a b → RunsOn mask p b
-happens-on mask a b p s (steps i m e c t ms o) =
-    on-stepped mask a p s i m e c t ms o _ _ (Life.steps (s .lives i m) (event-steps (a .sent) (a .seat i .now) e c t ms o))
-happens-on mask a b p s (fails i m e c t ms o k u n h) =
-    go (life-fails i mask (a .seat i .now) t (a .seat i .place) (a .seat i .disk) (s .lives i m) torn-step k)
+happens-on mask a b p s (starts i m z) =
+    let w = none-awaits (s .stored i m) z in
+    on-same mask a p s i m _ (sym (w .untouched)) (lives (starts-lives m w))
+happens-on mask a b p s (tears i m z k l) =
+    let w = none-awaits (s .stored i m) z in
+    on-same mask a p s i m _ (sym (w .untouched)) (awaits (tears-awaits k l w))
+happens-on mask a b p s (steps i m up e c t ms o) =
+    on-stepped mask a p s i m e c t ms o _ _ (Life.steps (started-lives (s .stored i m) up) (event-steps (a .sent) (a .seat i .now) e c t ms o))
+happens-on mask a b p s (fails i m up e c t ms o k u n h) =
+    go (life-fails i mask (a .seat i .now) t (a .seat i .place) (a .seat i .disk) life torn-step k)
   where
+    life : Life i mask (a .seat i .now) (a .seat i .place) (a .seat i .disk)
+    life = started-lives (s .stored i m) up
+
     torn-step : Step (a .seat i .now) t
     torn-step = event-steps (a .sent) (a .seat i .now) e c t ms o
 
@@ -149,15 +224,20 @@ happens-on mask a b p s (fails i m e c t ms o k u n h) =
         → RunsOn mask p (seated a i (record { now = u; disk = torn; place = n }) [])
     go (inl before) =
         let same : u ≡ restarted (a .seat i .now) = cc in
-        on-restarted mask a p s i m u n torn same (Life.fails (s .lives i m) torn-step k h)
+        on-restarted mask a p s i m u n torn same (Life.fails life torn-step k h)
     go (inr behind) =
         let same : u ≡ restarted t = cc in
-        on-both mask a p s i m e c t ms o u n torn same (Life.fails (s .lives i m) torn-step k h)
+        on-both mask a p s i m e c t ms o u n torn same (Life.fails life torn-step k h)
 happens-on mask a b p s (reopens i m u n h) =
-    let was = life-opens i mask (a .seat i .now) (a .seat i .place) (a .seat i .disk) (s .lives i m) in
+    let life = opened-lives {b = a .seat i} (s .stored i m) h in
+    let was = life-opens i mask (a .seat i .now) (a .seat i .place) (a .seat i .disk) life in
     let same : u ≡ restarted (a .seat i .now) = cc in
-    on-restarted mask a p s i m u n (a .seat i .disk) same (Life.reopens (s .lives i m) h)
-happens-on mask a b p s (trims i m k) = on-trimmed mask a p s i m _ _ (Life.trims (s .lives i m) k)
+    on-restarted mask a p s i m u n (a .seat i .disk) same (Life.reopens life h)
+happens-on mask a b p s (trims i m k) = go (s .stored i m)
+  where
+    go : Stored i mask (a .seat i) → RunsOn mask p b
+    go (awaits w) = on-same mask a p s i m _ refl (awaits (trims-awaits k w))
+    go (lives l) = on-same mask a p s i m _ refl (lives (Life.trims l k))
 
 -- So a run of the site is a run of its park.
 pub goes-on : (mask : ℕ) {a b : Site} (p : Park) → Mirrors mask a p → Goes mask a b → RunsOn mask p b

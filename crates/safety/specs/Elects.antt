@@ -36,7 +36,7 @@ box-1-stands = standing (fresh 1 7)
 abbrev pub first : Park
 first = after (start 7) 1 box-1-stands (vote-requests box-1-stands)
 
-first-reached : Reached 7 first
+unfoldable pub first-reached : Reached 7 first
 unfolding opens
 first-reached = moves stays (steps 1 refl times-out tt box-1-stands (vote-requests box-1-stands) refl)
 
@@ -56,7 +56,7 @@ box-2-votes = voting (taking 1 (fresh 2 7)) 1
 abbrev pub second : Park
 second = after first 2 box-2-votes (vote-answer 2 1 1 1 ∷ [])
 
-second-reached : Reached 7 second
+unfoldable pub second-reached : Reached 7 second
 unfolding opens
 second-reached =
     moves first-reached
@@ -75,7 +75,7 @@ box-1-leads = settle (leading (adding box-1-stands 2))
 abbrev pub third : Park
 third = after second 1 box-1-leads (appends box-1-leads)
 
-pub third-reached : Reached 7 third
+unfoldable pub third-reached : Reached 7 third
 unfolding opens
 third-reached =
     moves second-reached

@@ -53,7 +53,7 @@ pub data Ending (sent : List (List ℕ)) (s : State) : State → List Message �
   counts : (from to term reply : ℕ) → Came sent s (vote-answer from to term reply) → Counts s term reply → Ending sent s (adding s from) []
   -- an append: the no to a lower term, the no for want of the previous entry, and the yes
   declines : (from : ℕ) → Ending sent s s (append-answer-to s from 0 false ∷ [])
-  wants : (from term : ℕ) → Ending sent s (following (taken term s)) (append-answer-to (following (taken term s)) from 0 false ∷ [])
+  wants : (from term : ℕ) → Looks s term → Ending sent s (following (taken term s)) (append-answer-to (following (taken term s)) from 0 false ∷ [])
   joins : (from to term index prior commit : ℕ) (es : List Entry) → Came sent s (append from to term index prior commit es) → Looks s term
       → lacks (taken term s .log) index prior ≡ false
       → Ending sent s (joining (taken term s) index commit es)
@@ -72,7 +72,7 @@ deliver-ending sent s (vote-answer from to term reply) c =
     vote-answer-ends (Ending sent s) s from to term reply (λ k m. wins from to term reply c k m) (λ k m. counts from to term reply c k)
     (takes term)
 deliver-ending sent s (append from to term index prior commit es) c =
-    append-ends (Ending sent s) s from to term index prior commit es (λ l. declines from) (λ l n. wants from term)
+    append-ends (Ending sent s) s from to term index prior commit es (λ l. declines from) (λ l n. wants from term l)
     (λ l n k. joins from to term index prior commit es c l n)
 deliver-ending sent s (append-answer from to term reply index) c =
     append-answer-ends (Ending sent s) s from to term reply index (λ h b. hears-again from to term reply index c h)

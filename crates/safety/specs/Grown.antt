@@ -7,7 +7,7 @@ use Rattle.frames.specs.declared.Entry.{Entry}
 use Rattle.raft.specs.Record.{State}
 use Rattle.history.specs.InForce.{Rule, fixed}
 use Rattle.history.specs.History.{History, Facts}
-use Rattle.history.specs.Put.{put-other}
+use Rattle.history.specs.PutLaws.{put-other}
 use Rattle.history.specs.Grow.{asks-now, Asks, raised, stood, Votes, gave, with-leaders, winner, longer, moved}
 use Rattle.history.specs.Later.{Later, later-self, later-trans, raised-later}
 use Rattle.history.specs.Steps.{asks, gives, wins, adds, accepts, asks-later, gives-later, adds-later, accepts-later}

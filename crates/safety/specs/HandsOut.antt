@@ -77,7 +77,7 @@ ending-hands {s = s} k told (votes-not from term) = same (taken-same-hands term 
 ending-hands k told (wins from to term reply c n most) = leads refl
 ending-hands k told (counts from to term reply c n) = same refl
 ending-hands k told (declines from) = same refl
-ending-hands {s = s} k told (wants from term) = same (taken-same-hands term s)
+ending-hands {s = s} k told (wants from term look) = same (taken-same-hands term s)
 ending-hands k told (joins from to term index prior commit es c look has) = joins-hands-out k told from to term index prior commit es c look has
 ending-hands k told (hears from to term reply index c n) = leads (n .leads)
 ending-hands k told (hears-again from to term reply index c n) = leads (n .leads)
@@ -116,7 +116,7 @@ ending-appends (votes-not from term) = (tt, tt)
 ending-appends {t = t} (wins from to term reply c n most) = appends-led t refl
 ending-appends (counts from to term reply c n) = tt
 ending-appends (declines from) = (tt, tt)
-ending-appends (wants from term) = (tt, tt)
+ending-appends (wants from term look) = (tt, tt)
 ending-appends (joins from to term index prior commit es c look has) = (tt, tt)
 ending-appends (hears from to term reply index c n) = tt
 ending-appends (hears-again from to term reply index c n) = (record { leads = n .leads; now = refl; known = refl }, tt)

@@ -19,7 +19,7 @@ use Rattle.journal.specs.Opening.{restarted}
 use Rattle.history.specs.InForce.{fixed}
 use Rattle.history.specs.History.{History, Facts}
 use Rattle.history.specs.Handed.{hands-nothing, hands-higher}
-use Rattle.history.specs.Put.{put-same}
+use Rattle.history.specs.PutLaws.{put-same}
 use Rattle.history.specs.Grow.{raised}
 use Rattle.history.specs.GrowVotes.{raised-facts}
 use Rattle.history.specs.Later.{Later, later-self, raised-later}

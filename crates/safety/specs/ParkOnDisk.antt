@@ -1,23 +1,28 @@
 -- Each run of a park is one of a site with its disks, for a journal always opens: the telling with disks leaves out nothing that Park allows.
 -- Assumes nothing.
-use Prim.Native.Nat.{ℕ, _+_}
+use Prim.Native.Nat.{ℕ, _+_, _≤_}
+use native.Mathlib.Omega.{arith}
 use mathlib.Core.Path.{_≡_, refl, sym, ap, _∙_}
 use mathlib.Core.Bool.{true}
 use mathlib.Core.List.{List, []}
 use mathlib.Core.Logic.{_⊎_, inl, inr}
 use lib.ListN.{length, take}
+use Rattle.digits.specs.Room.{over}
 use Rattle.frames.specs.Message.{Message}
-use Rattle.raft.specs.Record.{State, is-membership}
-use Rattle.raft.specs.Journal.{journaled}
+use Rattle.raft.specs.Record.{State, fresh, is-membership}
+use Rattle.raft.specs.Journal.{head, journaled}
 use Rattle.raft.specs.Outcome.{done}
 use Rattle.raft.specs.Event.{Event, step}
-use Rattle.journal.specs.Opening.{restarted, opened, opening}
+use Rattle.journal.specs.LineSpelling.{head-nine}
+use Rattle.journal.specs.Opening.{restarted, opened, headless, opening}
 use Rattle.journal.specs.LifeLaws.{life-opens, life-fails}
-use Rattle.history.specs.Put.{put, put-same, put-other, put-all}
+use Rattle.history.specs.Put.{put}
+use Rattle.history.specs.PutLaws.{put-same, put-other, put-all}
 use Rattle.safety.specs.Park.{Park, start, Comes, frames, after, steps, restarts, stays, moves, Reached}
+use Rattle.safety.specs.Sent.{Among, wider, among-more}
 use Rattle.safety.specs.Proper.{event-steps}
-use Rattle.safety.specs.Disks.{Seat, Site, built, written, seated, Happens, Goes}
-use Rattle.safety.specs.DisksLaws.{Among, wider, among-more, built-mirrors, goes-on}
+use Rattle.safety.specs.Disks.{Seat, Site, built, Started, written, seated, Happens, Goes}
+use Rattle.safety.specs.DisksLaws.{Stored, awaits, lives, torn-head, life-started, started-lives, none-awaits, built-mirrors, goes-on}
 
 -- A site that has run, with the park's records, and all that was sent in the park.
 pub record Shown (mask : ℕ) (p : Park) : Type 0 where
@@ -25,6 +30,11 @@ pub record Shown (mask : ℕ) (p : Park) : Type 0 where
   pub run : Goes mask (built mask) site
   pub same : (i : ℕ) → site .seat i .now ≡ p .box i
   pub known : Among (p .sent) (site .sent)
+
+-- One in which box i was started.
+record Ready (mask : ℕ) (p : Park) (i : ℕ) : Type 0 where
+  shown : Shown mask p
+  started : Started (shown .site .seat i)
 
 module _ (mask : ℕ) (p : Park) (x : Shown mask p) (i : ℕ) (m : is-membership i mask ≡ true) where
   -- One seat changes as the park's record does.
@@ -39,30 +49,57 @@ module _ (mask : ℕ) (p : Park) (x : Shown mask p) (i : ℕ) (m : is-membership
         known = among-more (frames ms) (p .sent) (x .site .sent) (x .known);
       }
 
-  -- A step writes its line,
-  step-shown : (e : Event) → Comes (p .sent) e → (t : State) (ms : List Message) → step e (p .box i) ≡ done t ms → Shown mask (after p i t ms)
-  step-shown e c t ms o = seat-shown _ t ms refl (Happens.steps i m e (wider (x .known) e c) t ms (rw (x .same i) o))
+  -- A step of a box that was started writes its line,
+  step-shown : Started (x .site .seat i) → (e : Event) → Comes (p .sent) e → (t : State) (ms : List Message) → step e (p .box i) ≡ done t ms
+      → Shown mask (after p i t ms)
+  step-shown up e c t ms o = seat-shown _ t ms refl (Happens.steps i m up e (wider (x .known) e c) t ms (rw (x .same i) o))
 
-  -- and a restart opens the disk, which opens.
-  restart-shown : Shown mask (after p i (restarted (p .box i)) [])
-  restart-shown =
-      let lives = goes-on mask _ (built-mirrors mask) (x .run) .mirrors .lives i m in
-      seat-shown _ (restarted (p .box i)) [] (ap restarted (x .same i)) (Happens.reopens i m _ _ (life-opens i mask _ _ _ lives))
+  -- and its restart opens the disk, which opens.
+  restart-shown : Started (x .site .seat i) → Shown mask (after p i (restarted (p .box i)) [])
+  restart-shown up =
+      let life = started-lives (goes-on mask _ (built-mirrors mask) (x .run) .mirrors .stored i m) up in
+      seat-shown _ (restarted (p .box i)) [] (ap restarted (x .same i)) (Happens.reopens i m _ _ (life-opens i mask _ _ _ life))
+
+  -- A box that waits for its head is started first.
+  started-shown : Ready mask p i
+  unfolding seated frames
+  started-shown = go (goes-on mask _ (built-mirrors mask) (x .run) .mirrors .stored i m)
+    where
+      go : Stored i mask (x .site .seat i) → Ready mask p i
+      go (awaits w) =
+          record {
+            shown = record {
+              site = seated (x .site) i _ [];
+              run = Goes.goes (x .run) (Happens.starts i m (w .nowhere));
+              same = put-all (λ j y. y .now ≡ p .box j) (x .site .seat) i _ (sym (w .untouched) ∙ x .same i) (λ j n. x .same j);
+              known = x .known;
+            };
+            started = rw (put-same (x .site .seat) i (record {
+              now = fresh i mask;
+              disk = over (x .site .seat i .disk) 0 (head i mask);
+              place = length (head i mask);
+            })) (omega (arith, head-nine i mask));
+          }
+      go (lives l) = record { shown = x; started = life-started i mask _ _ _ l }
 
 -- **Each run of a park is one of a site.**
 pub shown : (mask : ℕ) (p : Park) → Reached mask p → Shown mask p
 unfolding start built
 shown mask p stays = record { site = built mask; run = Goes.stays; same = λ i. refl; known = λ bytes m. m }
-shown mask p (moves {q = q} r (steps i m e c t ms o)) = step-shown mask q (shown mask q r) i m e c t ms o
-shown mask p (moves {q = q} r (restarts i m)) = restart-shown mask q (shown mask q r) i m
+shown mask p (moves {q = q} r (steps i m e c t ms o)) =
+    let ready = started-shown mask q (shown mask q r) i m in
+    step-shown mask q (ready .shown) i m (ready .started) e c t ms o
+shown mask p (moves {q = q} r (restarts i m)) =
+    let ready = started-shown mask q (shown mask q r) i m in
+    restart-shown mask q (ready .shown) i m (ready .started)
 
 -- **And a box comes back from power that failed at any byte of any step's line:** what `fails` asks of the opening is always so.
-pub always-opens : (mask : ℕ) (a : Site) → Goes mask (built mask) a → (i : ℕ) → is-membership i mask ≡ true → (e : Event) → Comes (a .sent) e
-    → (t : State) (messages : List Message) → step e (a .seat i .now) ≡ done t messages → (k : ℕ)
+pub always-opens : (mask : ℕ) (a : Site) → Goes mask (built mask) a → (i : ℕ) → is-membership i mask ≡ true → Started (a .seat i) → (e : Event)
+    → Comes (a .sent) e → (t : State) (messages : List Message) → step e (a .seat i .now) ≡ done t messages → (k : ℕ)
     → (u : State) × (n : ℕ) × (opening i (written (a .seat i) (take k (journaled (a .seat i .now) t))) ≡ opened u n)
-always-opens mask a g i m e c t ms o k =
-    let lives = goes-on mask _ (built-mirrors mask) g .mirrors .lives i m in
-    go (life-fails i mask _ t _ _ lives (event-steps (a .sent) (a .seat i .now) e c t ms o) k)
+always-opens mask a g i m up e c t ms o k =
+    let life = started-lives (goes-on mask _ (built-mirrors mask) g .mirrors .stored i m) up in
+    go (life-fails i mask _ t _ _ life (event-steps (a .sent) (a .seat i .now) e c t ms o) k)
   where
     torn : List ℕ
     torn = written (a .seat i) (take k (journaled (a .seat i .now) t))
@@ -72,3 +109,16 @@ always-opens mask a g i m e c t ms o k =
         → (u : State) × (n : ℕ) × (opening i torn ≡ opened u n)
     go (inl before) = (_, _, before)
     go (inr behind) = (_, _, behind)
+
+-- **Between steps too a box that was started comes back,** with its stored part and the place of its next line;
+pub started-opens : (mask : ℕ) (a : Site) → Goes mask (built mask) a → (i : ℕ) → is-membership i mask ≡ true → Started (a .seat i)
+    → opening i (a .seat i .disk) ≡ opened (restarted (a .seat i .now)) (a .seat i .place)
+started-opens mask a g i m up =
+    life-opens i mask _ _ _ (started-lives (goes-on mask _ (built-mirrors mask) g .mirrors .stored i m) up)
+
+-- **and one whose head was torn is answered 11,** and has nothing to lose: it is started again.
+pub torn-answered : (mask : ℕ) (a : Site) → Goes mask (built mask) a → (i : ℕ) → is-membership i mask ≡ true → a .seat i .place ≡ 0
+    → (opening i (a .seat i .disk) ≡ headless) × (a .seat i .now ≡ fresh i mask)
+torn-answered mask a g i m z =
+    let w = none-awaits (goes-on mask _ (built-mirrors mask) g .mirrors .stored i m) z in
+    (torn-head i mask (a .seat i) w, w .untouched)

@@ -17,7 +17,7 @@ use Rattle.journal.specs.Opening.{restarted}
 use Rattle.journal.specs.OpeningLaws.{fresh-fits, restarted-good, restarted-fits}
 use Rattle.journal.specs.Runs.{Step, by-event}
 use Rattle.journal.specs.StepMoves.{step-moves}
-use Rattle.history.specs.Put.{put-all}
+use Rattle.history.specs.PutLaws.{put-all}
 use Rattle.safety.specs.Park.{Park, start, Comes, after, steps, restarts, stays, moves, Reached}
 
 -- ---- an event

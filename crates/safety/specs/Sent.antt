@@ -1,8 +1,8 @@
--- The messages that were sent, as their frames are read, and as they come to a box. Assumes nothing.
+-- The frames that were sent: as they are read, fewer of them and more, and as they come to a box. Assumes nothing.
 use Prim.Native.Nat.{ℕ}
 use mathlib.Core.Path.{_≡_, refl}
 use mathlib.Core.Bool.{_&&_}
-use mathlib.Core.List.{List, [], _∷_, _++_, List·Memᴰ, List·Memᴰ·cases-cons, List·Memᴰ·append-cases, List·Memᴰ·not-nil}
+use mathlib.Core.List.{List, [], _∷_, _++_, List·Memᴰ, List·Memᴰ·cases-cons, List·Memᴰ·append-cases, List·Memᴰ·not-nil, Memᴰ·append-left, Memᴰ·append-right}
 use mathlib.Core.Logic.{_⊎_, inl, inr}
 use lib.Dec.{eqb}
 use borrow.Author.Tests.{eqb-true}
@@ -15,8 +15,9 @@ use Rattle.raft.specs.CommitLaws.{by-test}
 use Rattle.raft.specs.Outcome.{Outcome, refuse}
 use Rattle.raft.specs.SendLaws.{All}
 use Rattle.raft.specs.Receive.{deliver, sender, receiver, arrive, arrive-read, receive, is-for}
+use Rattle.raft.specs.Event.{Event, times-out, takes-order, is-prompted, receives}
 use Rattle.raft.specs.ReceiveLaws.{Arrives}
-use Rattle.safety.specs.Park.{frames}
+use Rattle.safety.specs.Park.{Comes, frames}
 
 -- A message is among the frames that were sent.
 pub record Sent (sent : List (List ℕ)) (m : Message) : Type 0 where
@@ -46,6 +47,27 @@ sent-cases P ms sent r a m s = go (List·Memᴰ·append-cases (frames ms) (s .th
     go : List·Memᴰ (s .bytes) (frames ms) ⊎ List·Memᴰ (s .bytes) sent → P m ⊎ Sent sent m
     go (inl f) = inl (frames-all P ms r a (s .bytes) m f (s .read))
     go (inr o) = inr (record { bytes = s .bytes; there = o; read = s .read })
+
+-- ---- fewer and more frames
+
+-- Frames that are among others.
+abbrev pub Among : List (List ℕ) → List (List ℕ) → Type 0
+Among few many = (bytes : List ℕ) → List·Memᴰ bytes few → List·Memᴰ bytes many
+
+-- An event may come where more was sent.
+pub wider : {few many : List (List ℕ)} → Among few many → (e : Event) → Comes few e → Comes many e
+wider w times-out c = tt
+wider w (takes-order o) c = c
+wider w is-prompted c = tt
+wider w (receives bytes) c = w bytes c
+
+-- More frames on either side.
+pub among-more : (new few many : List (List ℕ)) → Among few many → Among (new ++ few) (new ++ many)
+among-more new few many w bytes m = go (List·Memᴰ·append-cases new m)
+  where
+    go : List·Memᴰ bytes new ⊎ List·Memᴰ bytes few → List·Memᴰ bytes (new ++ many)
+    go (inl a) = Memᴰ·append-left many a
+    go (inr b) = Memᴰ·append-right new (w bytes b)
 
 -- ---- bytes that come to a box
 

@@ -19,47 +19,47 @@ use Rattle.safety.specs.Elects.{arrives, third-reached}
 use Rattle.safety.specs.Commits.{opens, entry, joined-up, sixth, commit-run}
 
 -- Box 2 stands,
-abbrev box-2-stands : State
+abbrev pub box-2-stands : State
 box-2-stands = standing joined-up
 
-abbrev two-asks : Park
+abbrev pub two-asks : Park
 two-asks = after sixth 2 box-2-stands (vote-requests box-2-stands)
 
-to-two-asks : Move 7 sixth two-asks
+unfoldable pub to-two-asks : Move 7 sixth two-asks
 unfolding opens
 to-two-asks = steps 2 refl times-out tt box-2-stands (vote-requests box-2-stands) refl
 
 -- box 3 gives it its vote,
-abbrev request-2 : Message
+abbrev pub request-2 : Message
 request-2 = vote-request 2 3 2 1 1
 
-abbrev box-3-votes : State
+abbrev pub box-3-votes : State
 box-3-votes = voting (taking 2 (fresh 3 7)) 2
 
-abbrev three-votes : Park
+abbrev pub three-votes : Park
 three-votes = after two-asks 3 box-3-votes (vote-answer 3 2 2 1 ∷ [])
 
-to-three-votes : Move 7 two-asks three-votes
+unfoldable pub to-three-votes : Move 7 two-asks three-votes
 unfolding opens
 to-three-votes =
     steps 3 refl (receives (text request-2)) (List·Memᴰ·tail (List·Memᴰ·head refl)) box-3-votes (vote-answer 3 2 2 1 ∷ [])
     (arrives (fresh 3 7) box-3-votes request-2 (vote-answer 3 2 2 1 ∷ []) refl (omega arith) refl)
 
 -- and box 2 leads.
-abbrev box-2-leads : State
+abbrev pub box-2-leads : State
 box-2-leads = settle (leading (adding box-2-stands 3))
 
 abbrev pub two-leads : Park
 two-leads = after three-votes 2 box-2-leads (appends box-2-leads)
 
-to-two-leads : Move 7 three-votes two-leads
+unfoldable pub to-two-leads : Move 7 three-votes two-leads
 unfolding opens
 to-two-leads =
     steps 2 refl (receives (text (vote-answer 3 2 2 1))) (List·Memᴰ·head refl) box-2-leads (appends box-2-leads)
     (arrives box-2-stands box-2-leads (vote-answer 3 2 2 1) (appends box-2-leads) refl (omega arith) refl)
 
 -- the run in which it comes to lead
-pub succeed-run : Run 7 sixth two-leads
+unfoldable pub succeed-run : Run 7 sixth two-leads
 succeed-run = moves (moves (moves stays to-two-asks) to-three-votes) to-two-leads
 
 -- Box 1 leads term 1 and box 2 term 2,
