@@ -14,6 +14,8 @@ use Rattle.abi.proofs.boxes.box_prompt.Reads as box-prompt
 use Rattle.abi.proofs.boxes.box_order.Reads as box-order
 use Rattle.abi.proofs.boxes.box_receive.Reads as box-receive
 use Rattle.abi.proofs.boxes.box_handed_out.Reads as box-handed-out
+use Rattle.abi.proofs.orders.order_from_bytes.Reads as order-from-bytes
+use Rattle.abi.proofs.orders.order_to_bytes.Reads as order-to-bytes
 use Rattle.abi.proofs.journals.journal_open.Reads as journal-open
 use Rattle.abi.proofs.journals.journal_replay.Reads as journal-replay
 
@@ -164,3 +166,20 @@ journal-replay-one-answer κs a r r' s s' p q =
       ap (λ (x : ReplayFlat). x .terms) same,
       ap (λ (x : ReplayFlat). x .orders) same,
     )
+
+-- ---- `order_from_bytes`: the number
+
+pub order-from-bytes-requires-nothing : (κs : _) (a : _) → order-from-bytes.Pre κs a
+order-from-bytes-requires-nothing κs a = tt
+
+pub order-from-bytes-one-answer : (κs : _) (a : _) (r r' : _) (s s' : _) → order-from-bytes.Post κs a r s → order-from-bytes.Post κs a r' s' → r ≡ r'
+order-from-bytes-one-answer κs a r r' s s' p q = p ∙ sym q
+
+-- ---- `order_to_bytes`: the bytes
+
+pub order-to-bytes-requires-nothing : (κs : _) (a : _) → order-to-bytes.Pre κs a
+order-to-bytes-requires-nothing κs a = tt
+
+pub order-to-bytes-one-answer : (κs : _) (a : _) (r r' : _) (s s' : _) → order-to-bytes.Post κs a r s → order-to-bytes.Post κs a r' s'
+    → now (s .1 .0) ≡ now (s' .1 .0)
+order-to-bytes-one-answer κs a r r' s s' p q = p ∙ sym q

@@ -1,4 +1,4 @@
--- One answer only. The constructor, each event and `handed_out` require nothing, and two answers that both meet the promise, from the same arguments, are the
+-- One answer only. The constructors, each event and `handed_out` require nothing, and two answers that both meet the promise, from the same arguments, are the
 -- same answer and leave the same in everything lent: terms, orders, journal, messages. Stated over the contracts themselves: `Pre` and `Post` are what a
 -- function's `requires` and `ensures` say; r is an answer, and s the parameters as the call leaves them, `s .0` the first, `s .1 .0` the second, and so on.
 -- Assumes nothing.
@@ -8,6 +8,7 @@ use mathlib.Core.List.{List}
 use denote.Ref.{now}
 use Rattle.record.specs.Calls.{Called, Begun}
 use Rattle.node.specs.declared.Answer.{Answer}
+use Rattle.node.proofs.Node.fresh.Reads as fresh
 use Rattle.node.proofs.Node.start.Reads as start
 use Rattle.node.proofs.Node.timeout.Reads as timeout
 use Rattle.node.proofs.Node.order.Reads as order
@@ -36,6 +37,14 @@ same-called r r' e = (
   ap (λ (x : Called). x .journal) e,
   ap (λ (x : Called). x .messages) e,
 )
+
+-- ---- `fresh`: the box
+
+pub fresh-requires-nothing : (κs : _) (a : _) → fresh.Pre κs a
+fresh-requires-nothing κs a = tt
+
+pub fresh-one-answer : (κs : _) (a : _) (r r' : _) (s s' : _) → fresh.Post κs a r s → fresh.Post κs a r' s' → r ≡ r'
+fresh-one-answer κs a r r' s s' p q = p ∙ sym q
 
 -- ---- `start`: the answer, and the journal's room
 
