@@ -6,7 +6,6 @@
 -- do not say, and a change of membership.
 pub mod Begins
 pub mod BeginsLaws
-pub mod Most
 pub mod Conf
 pub mod Alike
 pub mod InForce

@@ -25,7 +25,6 @@ pub mod Masks
 pub mod CarryStands
 pub mod CarryVotes
 pub mod CarryLeads
-pub mod CarryJoins
 pub mod Carry
 pub mod CarriedRun
 pub mod Alarms
@@ -46,5 +45,4 @@ pub mod Succeeds
 pub mod Conflicts
 pub mod HandsAgain
 pub mod TwoTerms
-pub mod BookShown
 pub mod Leaks
