@@ -132,6 +132,10 @@ three-leads = stepped votes-again 3 box-3-leads (appends box-3-leads)
 abbrev both-lead : Site
 both-lead = stepped three-leads 1 box-1-leads (appends box-1-leads)
 
+yea-comes : Comes (three-leads .sent) (receives (text yea))
+unfolding opens
+yea-comes = Memᴰ·append-right (frames (appends box-3-leads)) (List·Memᴰ·tail (List·Memᴰ·head refl))
+
 leak-run : Goes 7 (back (yea ∷ [])) both-lead
 unfolding opens
 leak-run =
@@ -142,7 +146,7 @@ leak-run =
     (arrives (fresh 2 7) box-2-again (vote-request 3 2 1 0 0) (vote-answer 2 3 1 1 ∷ []) refl (omega arith) refl)))
     (steps 3 refl (omega (arith, head-nine 3 7)) (receives (text (vote-answer 2 3 1 1))) (List·Memᴰ·head refl) box-3-leads (appends box-3-leads)
     (arrives box-3-stands box-3-leads (vote-answer 2 3 1 1) (appends box-3-leads) refl (omega arith) refl)))
-    (steps 1 refl (omega (arith, head-nine 1 7)) (receives (text yea)) (Memᴰ·append-right (frames (appends box-3-leads)) (List·Memᴰ·tail (List·Memᴰ·head refl))) box-1-leads (appends box-1-leads)
+    (steps 1 refl (omega (arith, head-nine 1 7)) (receives (text yea)) yea-comes box-1-leads (appends box-1-leads)
     (arrives box-1-stands box-1-leads yea (appends box-1-leads) refl (omega arith) refl))
 
 -- **Where messages of a torn step leave, "no term has two leaders" is false.**
