@@ -1,9 +1,40 @@
--- Configurations: one set of boxes, or two jointly. What may follow what, which are near each other, and that agreements under near ones share
--- a box (`meets`). Outside this file agreements are made, mapped and met; one is opened once, where there is no member (`Views.nobody`). Assumes nothing.
+-- Majorities, of which any two share a box (`both`); and configurations: one set of boxes, or two jointly. What may follow what, which are near each
+-- other, and that agreements under near ones share a box (`meets`). Outside this file agreements are made, mapped and met; one is opened once, where
+-- there is no member (`Views.nobody`). Assumes nothing.
 use Prim.Native.Nat.{ℕ, _<_}
 use mathlib.Core.Path.{_≡_, subst}
+use mathlib.Core.Bool.{true}
 use Rattle.frames.specs.Limits.{masks}
-use Rattle.history.specs.Most.{Most, Met, both, most-map}
+use Rattle.raft.specs.Majority.{holds, majority}
+use Rattle.raft.specs.MajorityLaws.{meet}
+use Rattle.raft.specs.RecordLaws.{Member}
+
+-- ---- majorities
+
+-- A set of boxes that is a majority of the members, of each of which something holds.
+pub record Most (members : ℕ) (P : ℕ → Type 0) : Type 0 where
+  pub boxes : ℕ
+  pub enough : majority members boxes ≡ true
+  pub each : (j : ℕ) → Member j members → holds boxes j ≡ true → P j
+
+-- A box of which both hold.
+pub record Met (P Q : ℕ → Type 0) : Type 0 where
+  pub box : ℕ
+  pub left : P box
+  pub right : Q box
+
+-- two majorities share a member
+pub both : {members : ℕ} {P Q : ℕ → Type 0} → members < masks → Most members P → Most members Q → Met P Q
+both {members} l p q =
+    let s = meet members (p .boxes) (q .boxes) l (p .enough) (q .enough) in
+    let m : Member (s .box) members = record { least = s .least; most = s .most; mask = l; held = s .member } in
+    record { box = s .box; left = p .each (s .box) m (s .first); right = q .each (s .box) m (s .second) }
+
+-- what follows for each follows for most
+pub most-map : {members : ℕ} {P Q : ℕ → Type 0} → ((j : ℕ) → P j → Q j) → Most members P → Most members Q
+most-map f p = record { boxes = p .boxes; enough = p .enough; each = λ j m s. f j (p .each j m s) }
+
+-- ---- configurations
 
 -- "old mask (0 when there is one set only), new mask"
 pub data Conf : Type 0 where

@@ -13,7 +13,7 @@ use Rattle.raft.specs.MajorityLaws.{at-box}
 use Rattle.raft.specs.Record.{term-at}
 use Rattle.raft.specs.Append.{lacks, joined, agreed, stop, passes}
 use Rattle.history.specs.Begins.{Begins}
-use Rattle.history.specs.Most.{Most}
+use Rattle.history.specs.Conf.{Most}
 use Rattle.history.specs.InForce.{Rule, fixed, agree-fixed}
 use Rattle.history.specs.History.{History, Won, Granted, first-of, Committed, Facts}
 use Rattle.history.specs.Book.{leader-holds}

@@ -6,7 +6,7 @@ use mathlib.Core.Path.{_≡_, refl}
 use mathlib.Core.List.{List, [], _∷_}
 use mathlib.Core.Logic.{inl, inr}
 use Rattle.frames.specs.declared.Entry.{Entry}
-use Rattle.history.specs.Most.{Most}
+use Rattle.history.specs.Conf.{Most}
 use Rattle.history.specs.InForce.{fixed, agree-fixed}
 use Rattle.history.specs.History.{History, Won, Granted, Facts}
 use Rattle.history.specs.Grow.{asks-now, grants-now, acks-now}

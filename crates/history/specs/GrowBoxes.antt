@@ -29,6 +29,26 @@ record MovesOn (h : History) (i s m : ℕ) (next : List Entry) : Type 0 where
   within : Within s next
   keeps : (t n : ℕ) → h .acked i t n → Keeps (h .leaders) t n (suc s) next
 
+-- Each box then keeps what it acknowledged: the box that moves on by what is shown of it, the others as before.
+moved-keeps : {rule : Rule} {h : History} (i s m : ℕ) (next : List Entry) → Facts rule h → MovesOn h i s m next → (j t n : ℕ)
+    → moved i s m next h .acked j t n → Keeps (h .leaders) t n (suc (moved i s m next h .term j)) (moved i s m next h .log j)
+unfolding moved raised
+moved-keeps {h = h} i s m next f x = put-both Keeping (h .term) (h .log) i s next own others
+  where
+    more : History
+    more = moved i s m next h
+
+    Keeping : ℕ → ℕ → List Entry → Type 0
+    Keeping j term log = (t n : ℕ) → more .acked j t n → Keeps (h .leaders) t n (suc term) log
+
+    own : (t n : ℕ) → more .acked i t n → Keeps (h .leaders) t n (suc s) next
+    own t n (inl a) = x .keeps t n a
+    own t n (inr q) = kept (rw (q .term, ← take-take n m (h .leaders .log s) (q .index)) (begins-trans (begins-take n _) (x .first)))
+
+    others : (j : ℕ) → (j ≡ i → ⊥) → (t n : ℕ) → more .acked j t n → Keeps (h .leaders) t n (suc (h .term j)) (h .log j)
+    others j not t n (inl a) = f .keeps j t n a
+    others j not t n (inr q) = absurd (not (q .box))
+
 -- A box moves on. What it granted it granted in terms that it had reached, so its new acknowledgement is of none below them.
 moved-facts : {rule : Rule} {h : History} (i s m : ℕ) (next : List Entry) → Facts rule h → MovesOn h i s m next
     → Facts rule (moved i s m next h)
@@ -52,7 +72,7 @@ moved-facts {rule} {h} i s m next f x =
       reaches = reaches;
       lower = lower;
       keeping = keeping;
-      keeps = put-both Keeping (h .term) (h .log) i s next own others;
+      keeps = moved-keeps i s m next f x;
       asked-reached = up .asked-reached;
       voted-reached = up .voted-reached;
       acked-reached = λ j t n a. reached j t n (up .acked-reached j t n) a;
@@ -77,17 +97,6 @@ moved-facts {rule} {h} i s m next f x =
     keeping j t n u c log (inl a) g l = f .keeping j t n u c log a g l
     keeping j t n u c log (inr q) g l =
         absurd (omega (arith, f .voted-reached j u c (f .granted-voted j u c log g), ap (h .term) (q .box), q .term, x .higher))
-
-    Keeping : ℕ → ℕ → List Entry → Type 0
-    Keeping j term log = (t n : ℕ) → more .acked j t n → Keeps (h .leaders) t n (suc term) log
-
-    own : (t n : ℕ) → more .acked i t n → Keeps (h .leaders) t n (suc s) next
-    own t n (inl a) = x .keeps t n a
-    own t n (inr q) = kept (rw (q .term, ← take-take n m (h .leaders .log s) (q .index)) (begins-trans (begins-take n _) (x .first)))
-
-    others : (j : ℕ) → (j ≡ i → ⊥) → (t n : ℕ) → more .acked j t n → Keeps (h .leaders) t n (suc (h .term j)) (h .log j)
-    others j not t n (inl a) = f .keeps j t n a
-    others j not t n (inr q) = absurd (not (q .box))
 
     reached : (j t n : ℕ) → (h .acked j t n → t ≤ more .term j) → more .acked j t n → t ≤ more .term j
     reached j t n old (inl a) = old a

@@ -121,13 +121,28 @@ not-by {l} {t} {n} {s} {c} {log} (lost x) unwon = go (decLt (x .term) s)
         w : l .won s (x .box) (x .start)
         w = rw same at (x .won)
 
+-- A box that had voted for nobody else in the term has still one vote in it.
+gave-one-vote : {rule : Rule} {h : History} (i t c : ℕ) → Facts rule h → ((d : ℕ) → h .voted i t d → d ≡ c)
+    → (j s d e : ℕ) → gave i t c h .voted j s d → gave i t c h .voted j s e → d ≡ e
+unfolding gave
+gave-one-vote {h = h} i t c f alone = one
+  where
+    chosen : {j s d e : ℕ} → Votes i t c j s d → h .voted j s e → e ≡ d
+    chosen {e = e} q v = alone e (rw (q .box, q .term) at v) ∙ sym (q .chosen)
+
+    one : (j s d e : ℕ) → gave i t c h .voted j s d → gave i t c h .voted j s e → d ≡ e
+    one j s d e (inl a) (inl b) = f .one-vote j s d e a b
+    one j s d e (inl a) (inr q) = chosen q a
+    one j s d e (inr q) (inl b) = sym (chosen q b)
+    one j s d e (inr q) (inr x) = q .chosen ∙ sym (x .chosen)
+
 -- A box votes in its term, for nobody else than before, and for a log at least as new as its own.
 pub gave-facts : {rule : Rule} {h : History} (i t c : ℕ) → Facts rule h → h .term i ≡ t → ((d : ℕ) → h .voted i t d → d ≡ c)
     → Fair (h .asked) t c (h .log i) → Facts rule (gave i t c h)
 unfolding gave
 gave-facts {rule} {h} i t c f now alone new =
     record {
-      one-vote = one;
+      one-vote = gave-one-vote i t c f alone;
       granted-voted = voted;
       asked-once = f .asked-once;
       asked-descends = f .asked-descends;
@@ -152,15 +167,6 @@ gave-facts {rule} {h} i t c f now alone new =
   where
     more : History
     more = gave i t c h
-
-    chosen : {j s d e : ℕ} → Votes i t c j s d → h .voted j s e → e ≡ d
-    chosen {e = e} q v = alone e (rw (q .box, q .term) at v) ∙ sym (q .chosen)
-
-    one : (j s d e : ℕ) → more .voted j s d → more .voted j s e → d ≡ e
-    one j s d e (inl a) (inl b) = f .one-vote j s d e a b
-    one j s d e (inl a) (inr q) = chosen q a
-    one j s d e (inr q) (inl b) = sym (chosen q b)
-    one j s d e (inr q) (inr x) = q .chosen ∙ sym (x .chosen)
 
     voted : (j s d : ℕ) (log : List Entry) → more .granted j s d log → more .voted j s d
     voted j s d log (inl a) = inl (f .granted-voted j s d log a)

@@ -12,9 +12,8 @@ use lib.ListN.{getD}
 use Rattle.frames.specs.declared.Entry.{Entry}
 use Rattle.frames.specs.Limits.{masks}
 use Rattle.frames.specs.Fields.{no-entry}
-use Rattle.history.specs.Most.{Most}
 use Rattle.history.specs.Alike.{Alike, alike-none, alike-entry, Shared}
-use Rattle.history.specs.Conf.{Conf, one, joint, Agrees, Agree, Extends, Near, same, before, behind, beside}
+use Rattle.history.specs.Conf.{Most, Conf, one, joint, Agrees, Agree, Extends, Near, same, before, behind, beside}
 
 -- What an entry says of the configuration.
 pub data Named : Type 0 where

@@ -20,8 +20,7 @@ use Rattle.history.specs.Begins.{Begins}
 use Rattle.history.specs.BeginsLaws.{begins-long, begins-term, begins-trans, begins-take, begins-both, begins-known}
 use Rattle.history.specs.History.{History, Won, last-of, Granted, Descends, kept, lost, first-of, Committed, Before, lower, sooner, Retains, retains, beaten, Facts}
 use Rattle.history.specs.Descent.{term-take, descends-last, won-descends, won-within, never-fall, own-part}
-use Rattle.history.specs.Most.{Met}
-use Rattle.history.specs.Conf.{Agree, meets}
+use Rattle.history.specs.Conf.{Met, Agree, meets}
 use Rattle.history.specs.Alike.{Alike, alike-swap, alike-both, alike-less, begins-alike, first-alike, alike-first, Shared}
 use Rattle.history.specs.InForce.{Rule, nearest, in-force, Linked, near-logs}
 use Rattle.history.specs.Lineage.{committed-reaches, linked}

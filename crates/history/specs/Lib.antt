@@ -6,7 +6,6 @@
 -- do not say, a change of membership, and why a vote that is given late does not count.
 pub mod Begins
 pub mod BeginsLaws
-pub mod Most
 pub mod Conf
 pub mod Alike
 pub mod InForce

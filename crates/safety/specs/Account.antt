@@ -35,12 +35,12 @@ unfolding handed-out
 box-covered mask {p = p} r c i = rw (reached-proper mask p r i .ours, c .kept i .log) at (c .kept i .hands .covered)
 
 -- As which park a moment of a telling stands.
-abbrev pub Standing : Runs → Type 1
-Standing R = R .Moment → Park → Type 0
+abbrev pub StandsAs : Runs → Type 1
+StandsAs R = R .Moment → Park → Type 0
 
 -- The same records as a park's, frames that were sent there too, a history of that park, in which all that leaders wrote is covered; and what is
 -- handed out, or carried by an append, is a beginning of the book.
-pub record Account (mask : ℕ) (R : Runs) (S : Standing R) {now : R .Moment} (run : R .Run (R .first) now) : Type 1 where
+pub record Account (mask : ℕ) (R : Runs) (S : StandsAs R) {now : R .Moment} (run : R .Run (R .first) now) : Type 1 where
   pub park : Park
   pub reached : Reached mask park
   pub stands : S now park
@@ -52,31 +52,31 @@ pub record Account (mask : ℕ) (R : Runs) (S : Standing R) {now : R .Moment} (r
   pub booked : Booked (λ log. Begins log (book (R .changes run))) history (R .box now) (R .sent now)
 
 -- A later account: its history is later, and its book has grown.
-pub record Further (mask : ℕ) (R : Runs) (S : Standing R) (h : History) (before : List Entry) {now : R .Moment} (run : R .Run (R .first) now) : Type 1 where
+pub record Further (mask : ℕ) (R : Runs) (S : StandsAs R) (h : History) (before : List Entry) {now : R .Moment} (run : R .Run (R .first) now) : Type 1 where
   pub account : Account mask R S run
   pub later : Later h (account .history)
   pub grows : Begins before (book (R .changes run))
 
 -- What accounts of all runs are.
-pub record Accounts (mask : ℕ) (R : Runs) (S : Standing R) : Type 1 where
+pub record Accounts (mask : ℕ) (R : Runs) (S : StandsAs R) : Type 1 where
   pub account : {p : R .Moment} (r : R .Run (R .first) p) → Account mask R S r
   pub further : {p q : R .Moment} (r : R .Run (R .first) p) (u : R .Run p q) (x : Account mask R S r)
       → Further mask R S (x .history) (book (R .changes r)) (R .both r u)
 
 -- An account is no earlier than itself,
-pub further-self : {mask : ℕ} {R : Runs} {S : Standing R} {p : R .Moment} {r : R .Run (R .first) p} (x : Account mask R S r)
+pub further-self : {mask : ℕ} {R : Runs} {S : StandsAs R} {p : R .Moment} {r : R .Run (R .first) p} (x : Account mask R S r)
     → Further mask R S (x .history) (book (R .changes r)) r
 further-self x = record { account = x; later = later-self (x .history); grows = begins-self _ }
 
 -- and one behind the other is later still.
-pub further-both : {mask : ℕ} {R : Runs} {S : Standing R} {h : History} {log : List Entry} {p q : R .Moment} {r : R .Run (R .first) p} {s : R .Run (R .first) q}
+pub further-both : {mask : ℕ} {R : Runs} {S : StandsAs R} {h : History} {log : List Entry} {p q : R .Moment} {r : R .Run (R .first) p} {s : R .Run (R .first) q}
     (x : Further mask R S h log r) → Further mask R S (x .account .history) (book (R .changes r)) s → Further mask R S h log s
 further-both x y = record { account = y .account; later = later-trans (x .later) (y .later); grows = begins-trans (x .grows) (y .grows) }
 
 -- ---- a move
 
 -- Box i has come to a record and its messages have left; the park has run on.
-pub record Moved (mask : ℕ) (R : Runs) (S : Standing R) {p q : R .Moment} (r : R .Run (R .first) p) (s : R .Run (R .first) q) (from : Park) (i : ℕ) (t : State)
+pub record Moved (mask : ℕ) (R : Runs) (S : StandsAs R) {p q : R .Moment} (r : R .Run (R .first) p) (s : R .Run (R .first) q) (from : Park) (i : ℕ) (t : State)
     (ms : List Message) : Type 0 where
   pub here : R .box q i ≡ t
   pub others : (j : ℕ) → (j ≡ i → ⊥) → R .box q j ≡ R .box p j
@@ -89,7 +89,7 @@ pub record Moved (mask : ℕ) (R : Runs) (S : Standing R) {p q : R .Moment} (r :
   pub same : (j : ℕ) → R .box q j ≡ park .box j
   pub known : Among (R .sent q) (park .sent)
 
-module _ {mask : ℕ} {R : Runs} {S : Standing R} {p q : R .Moment} {r : R .Run (R .first) p} {s : R .Run (R .first) q} (x : Account mask R S r) {i : ℕ} {t : State}
+module _ {mask : ℕ} {R : Runs} {S : StandsAs R} {p q : R .Moment} {r : R .Run (R .first) p} {s : R .Run (R .first) q} (x : Account mask R S r) {i : ℕ} {t : State}
     {ms : List Message} (v : Moved mask R S r s (x .park) i t ms) where
   -- the history goes on with the park,
   on : Onward mask (x .history) (v .park)
@@ -158,7 +158,7 @@ module _ {mask : ℕ} {R : Runs} {S : Standing R} {p q : R .Moment} {r : R .Run 
       end)
 
 -- **It sent nothing,** and what it then hands out is in the book.
-pub quiet-further : {mask : ℕ} {R : Runs} {S : Standing R} {p q : R .Moment} {r : R .Run (R .first) p} {s : R .Run (R .first) q} (x : Account mask R S r) {i : ℕ} {t : State}
+pub quiet-further : {mask : ℕ} {R : Runs} {S : StandsAs R} {p q : R .Moment} {r : R .Run (R .first) p} {s : R .Run (R .first) q} (x : Account mask R S r) {i : ℕ} {t : State}
     → Moved mask R S r s (x .park) i t [] → Begins (handed-out t) (book (R .changes s)) → Further mask R S (x .history) (book (R .changes r)) s
 unfolding frames
 quiet-further {mask} x {i} v b =

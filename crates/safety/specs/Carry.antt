@@ -1,7 +1,8 @@
 -- Each ending of a move keeps the facts: what is known of a box before it is known behind it, in a history that has grown by its doing.
 -- Assumes nothing.
-use Prim.Native.Nat.{ℕ, _+_, _<_}
-use mathlib.Core.Path.{_≡_, refl}
+use Prim.Native.Nat.{ℕ, _+_, _<_, _≤_}
+use native.Mathlib.Omega.{arith}
+use mathlib.Core.Path.{_≡_, refl, ap, _∙_}
 use mathlib.Core.Bool.{true, false}
 use mathlib.Core.List.{List, [], _∷_}
 use lib.ListN.{length}
@@ -19,21 +20,48 @@ use Rattle.raft.specs.Order.{ordered}
 use Rattle.raft.specs.AnyMessage.{taken}
 use Rattle.raft.specs.VoteRequest.{voting, vote-answer-to}
 use Rattle.raft.specs.VoteAnswer.{adding}
-use Rattle.raft.specs.Append.{following, lacks, joining, append-answer-to}
+use Rattle.raft.specs.Append.{following, lacks, joining, append-answer-to, joined}
 use Rattle.raft.specs.AppendAnswer.{heard}
 use Rattle.raft.specs.Receive.{sender, receiver, term-of}
 use Rattle.raft.specs.ReceiveLaws.{taken-keeps, taken-term, Grants, Counts, Looks, Hears, settled-heard, sent-by, good-heard, good-counted}
 use Rattle.history.specs.InForce.{fixed}
 use Rattle.history.specs.History.{History}
-use Rattle.history.specs.Told.{Tells, tells-later}
+use Rattle.history.specs.Told.{Tells, tells-later, Sending}
+use Rattle.history.specs.PutLaws.{put-same}
+use Rattle.history.specs.Grow.{moved}
+use Rattle.history.specs.Steps.{accepts}
+use Rattle.history.specs.Alarms.{append-accepted}
 use Rattle.safety.specs.Sent.{Sent}
 use Rattle.safety.specs.Endings.{Came, Ending, rests, stands, leads-alone, takes-up, prompts, takes, votes, votes-not, wins, counts, declines, wants, joins, hears, hears-again}
-use Rattle.safety.specs.Grown.{asks-grown, wins-grown, adds-grown}
+use Rattle.safety.specs.Grown.{asks-grown, wins-grown, adds-grown, accepts-grown}
 use Rattle.safety.specs.Next.{Known, Next, next-behind, next-same, vote-no-tells, append-no-tells, following-next, taken-next}
 use Rattle.safety.specs.CarryStands.{standing-known, standing-next, election, leading-known}
 use Rattle.safety.specs.CarryVotes.{voting-next, adding-known}
 use Rattle.safety.specs.CarryLeads.{settle-known, append-sending, led-next, ordered-known, heard-known}
-use Rattle.safety.specs.CarryJoins.{joining-next}
+
+-- **An append is accepted** in the box's term: it joins the leader's log, and acknowledges what was offered.
+joining-next : {h : History} {s : State} (from index prior commit : ℕ) (es : List Entry) → Known h s
+    → Sending (fixed (s .members)) h from (s .term) index prior commit es → lacks (s .log) index prior ≡ false
+    → Next (s .members) (s .me) h (joining s index commit es) (append-answer-to (joining s index commit es) from (index + length es) true ∷ [])
+unfolding joining All Tells accepts moved
+joining-next {h} {s} from index prior commit es k sent has =
+    let o = k .kept in
+    let reached : h .term (s .me) ≤ s .term = omega (arith, o .term) in
+    let a = append-accepted (k .facts) sent (s .me) (s .commit) (rw (o .term) (o .hands)) reached (rw (o .log) has) in
+    record {
+      history = accepts (s .me) (s .term) index es h;
+      facts = a .facts;
+      grown = accepts-grown (s .me) (s .term) index es h reached;
+      kept = record {
+        term = put-same (h .term) (s .me) (s .term);
+        log = put-same (h .log) (s .me) (joined (h .log (s .me)) index es) ∙ ap (λ x. joined x index es) (o .log);
+        vote = o .vote;
+        hands = rw (put-same (h .log) (s .me) (joined (h .log (s .me)) index es)) (a .hands);
+        stands = λ x. absurd (omega arith);
+        leads = λ x. absurd (omega arith);
+      };
+      tells = (λ e. a .acked, tt);
+    }
 
 -- A candidate with a majority wins, settles its commit and sends its appends.
 won-next : {h : History} {s : State} → Known h s → s .role ≡ candidate → majority (s .members) (s .votes) ≡ true

@@ -12,7 +12,7 @@ use Rattle.safety.specs.Book.{book, below, NoneAbove}
 use Rattle.safety.specs.Runs.{Runs, parks, sites}
 use Rattle.safety.specs.Sent.{wider}
 use Rattle.safety.specs.BookLaws.{book-below}
-use Rattle.safety.specs.Account.{Standing, Account, Further, Accounts}
+use Rattle.safety.specs.Account.{StandsAs, Account, Further, Accounts}
 use Rattle.safety.specs.ParkAccount.{park-accounts}
 use Rattle.safety.specs.SiteAccount.{site-accounts}
 use Rattle.safety.specs.OneLeader.{one-leader}
@@ -59,7 +59,7 @@ pub record Demand3 (R : Runs) : Type 0 where
       → (n ≡ 6 → ⊥) × (n ≡ 7 → ⊥) × (n ≡ 8 → ⊥)
 
 -- It holds where each run has an account.
-module _ {mask : ℕ} {R : Runs} {S : Standing R} (A : Accounts mask R S) where
+module _ {mask : ℕ} {R : Runs} {S : StandsAs R} (A : Accounts mask R S) where
   -- a moment, and a later one
   on : {p q : R .Moment} (r : R .Run (R .first) p) (u : R .Run p q) → Further mask R S (A .account r .history) (book (R .changes r)) (R .both r u)
   on r u = A .further r u (A .account r)

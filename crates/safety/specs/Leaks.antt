@@ -81,6 +81,11 @@ comes-to-2 : Comes (both-ask .sent) asked-by-1
 unfolding opens
 comes-to-2 = List·Memᴰ·tail (List·Memᴰ·tail (List·Memᴰ·head refl))
 
+-- which was started
+is-up-2 : Started (both-ask .seat 2)
+unfolding opens
+is-up-2 = omega (arith, head-nine 2 7)
+
 says-yes-to-1 : step asked-by-1 (both-ask .seat 2 .now) ≡ done box-2-votes (yea ∷ [])
 unfolding opens
 says-yes-to-1 = arrives (fresh 2 7) box-2-votes request (yea ∷ []) refl (omega arith) refl
@@ -105,7 +110,7 @@ back ms = seated both-ask 2 (record { now = fresh 2 7; disk = torn; place = both
 -- **and its yes has not left:** what was sent is what was sent before.
 pub torn-silent : (b : Site) × Happens 7 both-ask b × (b .sent ≡ both-ask .sent)
 unfolding opens
-torn-silent = (back [], fails 2 refl (omega (arith, head-nine 2 7)) asked-by-1 comes-to-2 box-2-votes (yea ∷ []) says-yes-to-1 0 (fresh 2 7) (both-ask .seat 2 .place) comes-back, refl)
+torn-silent = (back [], fails 2 refl is-up-2 asked-by-1 comes-to-2 box-2-votes (yea ∷ []) says-yes-to-1 0 (fresh 2 7) (both-ask .seat 2 .place) comes-back, refl)
 
 -- ---- had it left
 
@@ -127,6 +132,10 @@ three-leads = stepped votes-again 3 box-3-leads (appends box-3-leads)
 abbrev both-lead : Site
 both-lead = stepped three-leads 1 box-1-leads (appends box-1-leads)
 
+yea-comes : Comes (three-leads .sent) (receives (text yea))
+unfolding opens
+yea-comes = Memᴰ·append-right (frames (appends box-3-leads)) (List·Memᴰ·tail (List·Memᴰ·head refl))
+
 leak-run : Goes 7 (back (yea ∷ [])) both-lead
 unfolding opens
 leak-run =
@@ -137,7 +146,7 @@ leak-run =
     (arrives (fresh 2 7) box-2-again (vote-request 3 2 1 0 0) (vote-answer 2 3 1 1 ∷ []) refl (omega arith) refl)))
     (steps 3 refl (omega (arith, head-nine 3 7)) (receives (text (vote-answer 2 3 1 1))) (List·Memᴰ·head refl) box-3-leads (appends box-3-leads)
     (arrives box-3-stands box-3-leads (vote-answer 2 3 1 1) (appends box-3-leads) refl (omega arith) refl)))
-    (steps 1 refl (omega (arith, head-nine 1 7)) (receives (text yea)) (Memᴰ·append-right (frames (appends box-3-leads)) (List·Memᴰ·tail (List·Memᴰ·head refl))) box-1-leads (appends box-1-leads)
+    (steps 1 refl (omega (arith, head-nine 1 7)) (receives (text yea)) yea-comes box-1-leads (appends box-1-leads)
     (arrives box-1-stands box-1-leads yea (appends box-1-leads) refl (omega arith) refl))
 
 -- **Where messages of a torn step leave, "no term has two leaders" is false.**
@@ -149,7 +158,8 @@ pub leaks : ((a b : Site) → Goes 7 (built 7) a → (i : ℕ) → is-membership
 unfolding opens
 leaks claim =
     let same : _≡_ {A = ℕ} 1 3 =
-    claim both-ask both-lead both-reached 2 refl (omega (arith, head-nine 2 7)) asked-by-1 comes-to-2 box-2-votes (yea ∷ []) says-yes-to-1 0 (fresh 2 7) (both-ask .seat 2 .place) comes-back
+    claim both-ask both-lead both-reached 2 refl is-up-2 asked-by-1 comes-to-2
+    box-2-votes (yea ∷ []) says-yes-to-1 0 (fresh 2 7) (both-ask .seat 2 .place) comes-back
     leak-run 1 3 1
     (record { role = refl; in-term = refl }) (record { role = refl; in-term = refl }) in
     omega arith

@@ -17,7 +17,7 @@ use Rattle.safety.specs.Park.{Leads}
 use Rattle.safety.specs.Book.{Change, book, below, NoneAbove}
 use Rattle.safety.specs.Runs.{Runs}
 use Rattle.safety.specs.BookLaws.{Wrote, wrote-later, below-covered, below-nothing, below-all}
-use Rattle.safety.specs.Account.{Standing, Account, box-covered}
+use Rattle.safety.specs.Account.{StandsAs, Account, box-covered}
 
 -- ---- one moment
 
@@ -26,7 +26,7 @@ record TermLog (h : History) (term : ℕ) (log : List Entry) : Type 0 where
   won : Won (h .leaders) term
   same : h .leaders .log term ≡ log
 
-module _ {mask : ℕ} {R : Runs} {S : Standing R} {p : R .Moment} {r : R .Run (R .first) p} (x : Account mask R S r) where
+module _ {mask : ℕ} {R : Runs} {S : StandsAs R} {p : R .Moment} {r : R .Run (R .first) p} (x : Account mask R S r) where
   -- What a box hands out is covered, by a term that it has reached,
   handed-covered : (i : ℕ) → Covered (fixed mask) (x .history) (R .box p i .term) (handed-out (R .box p i))
   handed-covered i = rw (x .same i) (box-covered mask (x .reached) (x .carried) i)
@@ -48,7 +48,7 @@ module _ {mask : ℕ} {R : Runs} {S : Standing R} {p : R .Moment} {r : R .Run (R
 
 -- ---- two moments of a run
 
-module _ {mask : ℕ} {R : Runs} {S : Standing R} {p q : R .Moment} {r : R .Run (R .first) p} {s : R .Run (R .first) q} (x : Account mask R S r) (y : Account mask R S s)
+module _ {mask : ℕ} {R : Runs} {S : StandsAs R} {p q : R .Moment} {r : R .Run (R .first) p} {s : R .Run (R .first) q} (x : Account mask R S r) (y : Account mask R S s)
     (later : Later (x .history) (y .history)) where
   -- what a box handed out at the first is covered at the second
   still-covered : (i : ℕ) → Covered (fixed mask) (y .history) (R .box p i .term) (handed-out (R .box p i))

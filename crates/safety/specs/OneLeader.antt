@@ -5,12 +5,12 @@ use Rattle.history.specs.Later.{Later}
 use Rattle.safety.specs.Park.{Leads}
 use Rattle.safety.specs.Runs.{Runs}
 use Rattle.safety.specs.Proper.{reached-proper}
-use Rattle.safety.specs.Account.{Standing, Account}
+use Rattle.safety.specs.Account.{StandsAs, Account}
 
 -- **No term has two leaders in a run:** a box that leads a term now, and one that leads the same term at any later moment, are the same box. So no
 -- term is ever won by two, also where the first has stepped down, or lost its power, before the second is elected: the history of the later moment
 -- has both as winners of the term.
-pub one-leader : {mask : ℕ} {R : Runs} {S : Standing R} {p q : R .Moment} {r : R .Run (R .first) p} {s : R .Run (R .first) q} (x : Account mask R S r) (y : Account mask R S s)
+pub one-leader : {mask : ℕ} {R : Runs} {S : StandsAs R} {p q : R .Moment} {r : R .Run (R .first) p} {s : R .Run (R .first) q} (x : Account mask R S r) (y : Account mask R S s)
     → Later (x .history) (y .history) → (i j term : ℕ) → Leads (R .box p i) term → Leads (R .box q j) term → i ≡ j
 one-leader {mask} {R} {p} {q} x y later i j term a b =
     let first : Leads (x .park .box i) term = rw (x .same i) at a in

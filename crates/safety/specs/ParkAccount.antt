@@ -16,7 +16,7 @@ use Rattle.safety.specs.BookLaws.{Wrote}
 use Rattle.safety.specs.Proper.{event-reads, reached-proper}
 use Rattle.safety.specs.Endings.{event-ending}
 use Rattle.safety.specs.CarriedRun.{start-carried}
-use Rattle.safety.specs.Account.{Standing, Account, Further, Accounts, further-self, further-both, Moved, quiet-further, step-further}
+use Rattle.safety.specs.Account.{StandsAs, Account, Further, Accounts, further-self, further-both, Moved, quiet-further, step-further}
 
 -- What is fresh hands out nothing,
 pub fresh-hands : (i mask : ℕ) → handed-out (fresh i mask) ≡ []
@@ -29,7 +29,7 @@ unfolding handed-out restarted
 restarted-hands s = refl
 
 -- A park stands as itself.
-abbrev pub itself : (mask : ℕ) → Standing (parks mask)
+abbrev pub itself : (mask : ℕ) → StandsAs (parks mask)
 itself mask p park = p ≡ park
 
 -- At the start nothing is handed out.

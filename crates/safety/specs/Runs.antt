@@ -4,7 +4,7 @@ use Prim.Native.Nat.{ℕ}
 use mathlib.Core.List.{List, [], _∷_}
 use Rattle.raft.specs.Record.{State, fresh}
 use Rattle.journal.specs.Opening.{restarted}
-use Rattle.safety.specs.Park.{Park, start, Move, steps, restarts, stays, moves, run-both}
+use Rattle.safety.specs.Park.{Park, start, Move, steps, restarts, Run as ParkRun, stays, moves, run-both}
 use Rattle.safety.specs.Disks.{Site, built, Happens, Goes, goes-both}
 use Rattle.safety.specs.Book.{Change}
 
@@ -27,7 +27,7 @@ moved {p = p} (steps i m e c t messages o) = record { before = p .box i; behind 
 moved {p = p} (restarts i m) = record { before = p .box i; behind = restarted (p .box i) }
 
 -- and those of a run.
-unfoldable pub moves-of : {mask : ℕ} {p q : Park} → Rattle.safety.specs.Park.Run mask p q → List Change
+unfoldable pub moves-of : {mask : ℕ} {p q : Park} → ParkRun mask p q → List Change
 moves-of stays = []
 moves-of (moves r m) = moved m ∷ moves-of r
 
@@ -37,7 +37,7 @@ parks mask =
     record {
       Moment = Park;
       first = start mask;
-      Run = Rattle.safety.specs.Park.Run mask;
+      Run = ParkRun mask;
       both = run-both;
       changes = moves-of;
       box = λ p. p .box;
