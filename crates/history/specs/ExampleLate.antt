@@ -8,7 +8,7 @@ use mathlib.Core.Logic.{inl, inr}
 use lib.ListN.{getD}
 use Rattle.frames.specs.declared.Entry.{Entry}
 use Rattle.frames.specs.Fields.{no-entry}
-use Rattle.history.specs.Most.{Most}
+use Rattle.history.specs.Conf.{Most}
 use Rattle.history.specs.InForce.{fixed, agree-fixed}
 use Rattle.history.specs.History.{History, Won, Granted, Retains, retains, beaten, kept, lost, Facts}
 use Rattle.history.specs.Grow.{asks-now, grants-now, votes-now, acks-now}
