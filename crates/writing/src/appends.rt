@@ -1,5 +1,5 @@
 // "Append to j", and an append to each other member in rising box number.
-use crate::journal::put_logged;
+use crate::journal_lines::put_logged;
 use frames::Fields;
 use record::Record;
 use rules::is_other;
