@@ -6,7 +6,7 @@ ghost use mathlib.Core.Path.{_≡_};
 ghost use mathlib.Core.List.{[]};
 ghost use Prim.Native.Nat.{_≤_};
 ghost use lib.ListN.{length};
-ghost use Rattle.frames.specs.Limits.{boxes, log-limit};
+ghost use Rattle.frames.specs.Limits.{IsBox, log-limit};
 ghost use Rattle.frames.specs.Rules.{in-order};
 ghost use Rattle.raft.specs.Record.{is-membership, is-vote, is-role, are-votes, is-progress};
 ghost use Rattle.raft.specs.Lent.{entries-of};
@@ -43,8 +43,7 @@ pub fn is_role(role: u8, term: u32, vote: u8, me: u8) -> bool
 
 // "Votes are 0 unless candidate, then members with itself among them."
 pub fn are_votes(role: u8, votes: u8, members: u8, me: u8) -> bool
-    requires { ⌜ 1 ≤ me ⌝ }
-    requires { ⌜ me ≤ boxes ⌝ }
+    requires { ⌜ IsBox me ⌝ }
     ensures { λ r. ⌜ r ≡ are-votes role votes members me ⌝ }
 {
     if role == 1 {

@@ -2,9 +2,9 @@
 use borrow.Author.Needs.{needs}
 use mathlib.Core.Path.{sym, _∙_}
 use borrow.Author.Tests.{lt-ltb, le-ltb}
-use Rattle.raft.specs.CommitLaws.{better}
-use Rattle.changes.proofs.commit.better.Statement.{statement}
-use Rattle.changes.proofs.commit.better.Tie as tie
+use Rattle.raft.specs.CommitLaws.{larger-matched}
+use Rattle.changes.proofs.commit.larger_matched.Statement.{statement}
+use Rattle.changes.proofs.commit.larger_matched.Tie as tie
 
 matches-requires : tie.Need-matches-requires
 matches-requires c κs = search needs
@@ -13,7 +13,7 @@ is-matched-requires : tie.Need-is-matched-requires
 is-matched-requires c κs = search needs
 
 returns : tie.Need-returns
-unfolding better
+unfolding larger-matched
 returns c =
     let matches = c .before .before .before .matches in
     let if1 = c .before .before .if1 in
@@ -22,7 +22,7 @@ returns c =
     λ log h. rw (← matches .ensures log h, lt-ltb _ _ (if1 .taken), sym (is-matched .ensures log h) ∙ if2 .taken)
 
 returns-2 : tie.Need-returns-2
-unfolding better
+unfolding larger-matched
 returns-2 c =
     let matches = c .before .before .before .matches in
     let if1 = c .before .before .if1 in
@@ -31,11 +31,11 @@ returns-2 c =
     λ log h. rw (← matches .ensures log h, lt-ltb _ _ (if1 .taken), sym (is-matched .ensures log h) ∙ if2 .left)
 
 returns-3 : tie.Need-returns-3
-unfolding better
+unfolding larger-matched
 returns-3 c =
     let matches = c .before .matches in
     let if1 = c .if1 in
     λ log h. rw (← matches .ensures log h, le-ltb _ _ (if1 .left))
 
-pub better-spec : {M : Type 1} → statement M
-better-spec = tie.close (tie.spec matches-requires is-matched-requires returns returns-2 returns-3)
+pub larger-matched-spec : {M : Type 1} → statement M
+larger-matched-spec = tie.close (tie.spec matches-requires is-matched-requires returns returns-2 returns-3)
