@@ -2,13 +2,13 @@
 use record::Record;
 ghost use mathlib.Core.Path.{_≡_};
 ghost use mathlib.Core.List.{[], _∷_};
-ghost use Prim.Native.Nat.{_+_, _-_, _*_, _≤_};
+ghost use Prim.Native.Nat.{_-_, _≤_};
 ghost use lib.ListN.{length};
 ghost use Rattle.digits.specs.Room.{over};
 ghost use Rattle.frames.specs.Message.{number, entry-fields, spell};
 ghost use Rattle.raft.specs.Journal.{head, line-text};
 ghost use Rattle.raft.specs.Lent.{entries-of};
-ghost use Rattle.record.specs.Sizes.{Tellable};
+ghost use Rattle.record.specs.Sizes.{Loggable, LineFits};
 
 // "head 01, 11, box, mask"
 pub fn put_head(room: &mut [u8], me: u8, mask: u8)
@@ -47,9 +47,7 @@ pub fn put_logged(
     from: usize,
     count: usize,
 )
-    requires { ⌜ from + count ≤ length (now terms) ⌝ }
-    requires { ⌜ from + count ≤ length (now orders) ⌝ }
-    requires { ⌜ at + 24 * count ≤ length (now room) ⌝ }
+    requires { ⌜ Loggable (now terms) (now orders) from count at (now room) ⌝ }
     ensures { λ _. ⌜ now (room .exit) ≡ over (now (room .entry)) at
         (spell (entry-fields (entries-of (now (terms .entry)) (now (orders .entry)) from count))) ⌝ }
 {
@@ -62,8 +60,7 @@ pub fn put_logged(
 
 // A step's line: the next record's term and vote, and the entries of its log, which is lent, behind those that were kept.
 pub fn put_line(room: &mut [u8], next: Record, kept: u16, terms: &[u32], orders: &[u64])
-    requires { ⌜ Tellable next kept (now terms) (now orders) ⌝ }
-    requires { ⌜ 23 + 24 * (next .last - kept) ≤ length (now room) ⌝ }
+    requires { ⌜ LineFits next kept (now terms) (now orders) (now room) ⌝ }
     ensures { λ _. ⌜ now (room .exit) ≡ over (now (room .entry)) 0
         (line-text (record {
           box = next .me;
