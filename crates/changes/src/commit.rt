@@ -8,16 +8,16 @@ use rules::term_at;
 ghost use mathlib.Core.Path.{_≡_};
 ghost use mathlib.Core.Bool.{true};
 ghost use mathlib.Core.List.{List, [], _∷_, _++_};
-ghost use Prim.Native.Nat.{ℕ, _+_, _-_, _≤_, _<_};
-ghost use lib.ListN.{length};
-ghost use Rattle.frames.specs.Limits.{IsBox, log-limit};
+ghost use Prim.Native.Nat.{ℕ, _+_, _≤_};
+ghost use Rattle.frames.specs.Limits.{IsBox};
 ghost use Rattle.raft.specs.Majority.{bit};
-ghost use Rattle.raft.specs.Record.{leader, term-at};
+ghost use Rattle.raft.specs.Record.{term-at};
 ghost use Rattle.raft.specs.Commit.{matches, if-matches, matching, is-matched, settle};
-ghost use Rattle.raft.specs.CommitLaws.{better, best, Ranged};
+ghost use Rattle.raft.specs.CommitLaws.{larger-matched, largest-matched};
 ghost use Rattle.raft.specs.Order.{ordered};
-ghost use Rattle.record.specs.Calls.{entries-of, with-entries, state-of, Ready};
-ghost use Rattle.record.specs.Deciding.{Becomes, Found, Tested};
+ghost use Rattle.record.specs.Calls.{entries-of, with-entries, state-of};
+ghost use Rattle.record.specs.Deciding.{Found, Tested};
+ghost use Rattle.changes.specs.Required.{MaySettle, OneMore, MayOrder};
 
 // What box i matches; the leader itself its own last index.
 fn matches(n: Record, i: u8) -> u16
@@ -64,10 +64,10 @@ fn is_matched(n: Record, index: u16) -> bool
     is_majority(n.members, matching(n, index))
 }
 
-// The better of what was found and what box i matches.
-fn better(n: Record, found: u16, i: u8) -> u16
+// The larger of what was found and what box i matches.
+fn larger_matched(n: Record, found: u16, i: u8) -> u16
     requires { ⌜ IsBox i ⌝ }
-    ensures { λ r. ⌜ Found n r (λ s. better s found i) ⌝ }
+    ensures { λ r. ⌜ Found n r (λ s. larger-matched s found i) ⌝ }
 {
     let m = matches(n, i);
     if found < m {
@@ -79,26 +79,25 @@ fn better(n: Record, found: u16, i: u8) -> u16
 }
 
 // The largest index that a majority matches, or 0.
-fn best(n: Record) -> u16
-    ensures { λ r. ⌜ Found n r best ⌝ }
+fn largest_matched(n: Record) -> u16
+    ensures { λ r. ⌜ Found n r largest-matched ⌝ }
 {
-    let a = better(n, 0, 1);
-    let b = better(n, a, 2);
-    let c = better(n, b, 3);
-    let d = better(n, c, 4);
-    let e = better(n, d, 5);
-    let f = better(n, e, 6);
-    better(n, f, 7)
+    let a = larger_matched(n, 0, 1);
+    let b = larger_matched(n, a, 2);
+    let c = larger_matched(n, b, 3);
+    let d = larger_matched(n, c, 4);
+    let e = larger_matched(n, d, 5);
+    let f = larger_matched(n, e, 6);
+    larger_matched(n, f, 7)
 }
 
 // The leader with its commit settled, its log being the lent one.
 pub fn settled(n: Record, terms: &[u32], orders: &[u64]) -> Record
-    requires { ⌜ n .last ≤ length (now terms) ⌝ }
-    requires { ⌜ Ranged (state-of n (now terms) (now orders)) ⌝ }
+    requires { ⌜ MaySettle n (now terms) (now orders) ⌝ }
     ensures { λ r. ⌜ state-of r (now (terms .entry)) (now (orders .entry)) ≡ settle (state-of n (now (terms .entry)) (now (orders .entry))) ⌝ }
     ensures { λ r. ⌜ r .last ≡ n .last ⌝ }
 {
-    let found = best(n);
+    let found = largest_matched(n);
     let mut r = n;
     r.commit = rules::commit_at(n.commit, n.term, found, term_at(terms, found));
     r
@@ -106,9 +105,7 @@ pub fn settled(n: Record, terms: &[u32], orders: &[u64]) -> Record
 
 // The term of the entry at an index of a log that has one entry more, of the current term, than is lent.
 fn term_after(n: Record, terms: &[u32], index: u16) -> u32
-    requires { ⌜ index ≤ n .last + 1 ⌝ }
-    requires { ⌜ n .last < length (now terms) ⌝ }
-    requires { ⌜ n .last < log-limit ⌝ }
+    requires { ⌜ OneMore n (now terms) index ⌝ }
     ensures { λ r. ⌜ ((orders : List ℕ) (o : ℕ) →
         r ≡ term-at (entries-of (now (terms .entry)) orders 0 (n .last) ++ (record { term = n .term; order = o } ∷ [])) index) ⌝ }
 {
@@ -120,9 +117,7 @@ fn term_after(n: Record, terms: &[u32], index: u16) -> u32
 
 // "Entry with the current term", and commit settled with it.
 pub fn ordered(n: Record, terms: &[u32], orders: &[u64]) -> Record
-    requires { ⌜ Ready n (now terms) (now orders) ⌝ }
-    requires { ⌜ n .last < log-limit ⌝ }
-    requires { ⌜ n .role ≡ leader ⌝ }
+    requires { ⌜ MayOrder n (now terms) (now orders) ⌝ }
     ensures { λ r. ⌜ ((o : ℕ) →
         with-entries r (entries-of (now (terms .entry)) (now (orders .entry)) 0 (n .last) ++ (record { term = n .term; order = o } ∷ []))
         ≡ settle (ordered (state-of n (now (terms .entry)) (now (orders .entry))) o)) ⌝ }
@@ -130,7 +125,7 @@ pub fn ordered(n: Record, terms: &[u32], orders: &[u64]) -> Record
 {
     let mut longer = n;
     longer.last = n.last + 1;
-    let found = best(longer);
+    let found = largest_matched(longer);
     let mut r = longer;
     r.commit = rules::commit_at(n.commit, n.term, found, term_after(n, terms, found));
     r

@@ -11,15 +11,15 @@ ghost use mathlib.Core.Path.{_≡_};
 ghost use mathlib.Core.List.{List};
 ghost use Prim.Native.Nat.{ℕ, _≤_};
 ghost use lib.ListN.{length};
-ghost use Rattle.frames.specs.Limits.{IsBox, log-limit};
+ghost use Rattle.frames.specs.Limits.{log-limit};
 ghost use Rattle.raft.specs.Record.{good};
 ghost use Rattle.record.specs.Calls.{state-of};
 ghost use Rattle.record.specs.GoodLaws.{progress-of, all-progress};
+ghost use Rattle.changes.specs.Required.{AtBox};
 
 // Next and match of box i: "0 unless leader, and 0 for itself and non-members; for the others match is below next, .."
 fn progress_of(n: Record, i: u8) -> bool
-    requires { ⌜ IsBox i ⌝ }
-    requires { ⌜ n .last ≤ log-limit ⌝ }
+    requires { ⌜ AtBox n i ⌝ }
     ensures { λ r. ⌜ r ≡ progress-of n i ⌝ }
 {
     let at = (i - 1) as usize;

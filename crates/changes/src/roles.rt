@@ -5,18 +5,17 @@ use record::Record;
 use rules::bit;
 use rules::is_other;
 ghost use mathlib.Core.Path.{_≡_};
-ghost use Prim.Native.Nat.{_≤_, _<_};
-ghost use lib.ListN.{length};
-ghost use Rattle.frames.specs.Limits.{IsBox, log-limit};
+ghost use Prim.Native.Nat.{_≤_};
+ghost use Rattle.frames.specs.Limits.{log-limit};
 ghost use Rattle.raft.specs.AnyMessage.{taken};
 ghost use Rattle.raft.specs.Append.{following};
 ghost use Rattle.raft.specs.Timeout.{standing};
 ghost use Rattle.raft.specs.Winning.{leading};
-ghost use Rattle.raft.specs.RecordLaws.{Good};
 ghost use Rattle.raft.specs.Commit.{settle};
 ghost use Rattle.record.specs.Calls.{state-of};
 ghost use Rattle.record.specs.Deciding.{Becomes};
 ghost use Rattle.record.specs.ChangeLaws.{next-of};
+ghost use Rattle.changes.specs.Required.{AtBox, MayStand, MayLead};
 
 // "A candidate becomes follower."
 pub fn following(n: Record) -> Record
@@ -45,8 +44,7 @@ pub fn taken(n: Record, term: u32) -> Record
 
 // "term + 1, candidate, vote and votes = itself"
 pub fn standing(n: Record) -> Record
-    requires { ⌜ IsBox (n .me) ⌝ }
-    requires { ⌜ n .term < 4294967295 ⌝ }
+    requires { ⌜ MayStand n ⌝ }
     ensures { λ r. ⌜ Becomes n r standing ⌝ }
 {
     let mut r = n;
@@ -61,8 +59,7 @@ pub fn standing(n: Record) -> Record
 
 // "Next = last index + 1 .. for the others"
 fn next_after(n: Record, i: u8) -> u16
-    requires { ⌜ IsBox i ⌝ }
-    requires { ⌜ n .last ≤ log-limit ⌝ }
+    requires { ⌜ AtBox n i ⌝ }
     ensures { λ r. ⌜ r ≡ next-of n i ⌝ }
 {
     if is_other(n.me, n.members, i) {
@@ -96,9 +93,7 @@ fn leading(n: Record) -> Record
 
 // "Winning": it leads, and its commit is settled.
 pub fn won(n: Record, terms: &[u32], orders: &[u64]) -> Record
-    requires { ⌜ n .last ≤ log-limit ⌝ }
-    requires { ⌜ n .last ≤ length (now terms) ⌝ }
-    requires { ⌜ Good (leading (state-of n (now terms) (now orders))) ⌝ }
+    requires { ⌜ MayLead n (now terms) (now orders) ⌝ }
     ensures { λ r. ⌜ state-of r (now (terms .entry)) (now (orders .entry)) ≡ settle (leading (state-of n (now (terms .entry)) (now (orders .entry)))) ⌝ }
     ensures { λ r. ⌜ r .last ≡ n .last ⌝ }
 {

@@ -12,18 +12,15 @@ use writing::put_appends;
 use writing::put_requests;
 use writing::requests_size;
 ghost use mathlib.Core.Path.{_≡_};
-ghost use mathlib.Core.Bool.{_&&_};
 ghost use mathlib.Core.List.{[]};
-ghost use Prim.Native.Nat.{_+_, _-_, _*_, _≤_};
-ghost use lib.Dec.{eqb};
-ghost use lib.ListN.{length};
+ghost use Prim.Native.Nat.{_≤_};
 ghost use Rattle.digits.specs.Room.{over};
 ghost use Rattle.raft.specs.Sends.{texts};
 ghost use Rattle.record.specs.declared.Decision.{Decision};
 ghost use Rattle.record.specs.declared.Record.{Record};
 ghost use Rattle.record.specs.Calls.{state-of, Runs};
-ghost use Rattle.record.specs.Deciding.{messages-of, Aimed, decided, Sound};
-ghost use Rattle.record.specs.Sizes.{is-silent, line-bytes, line-size, sent-size, roomy, Sendable, Tellable};
+ghost use Rattle.record.specs.Deciding.{messages-of, Aimed, decided, Sound, AddsNone};
+ghost use Rattle.record.specs.Sizes.{is-silent, line-bytes, line-size, sent-size, roomy, answered, Measurable, MayFit, MessagesFit};
 
 // Nothing happens: 01's number, and the record as it was.
 pub fn refused(n: Record, number: u8) -> Step
@@ -81,8 +78,7 @@ fn fits(line: usize, journal: usize, sent: usize, messages: usize) -> bool
 
 // The step's line, where it has one. The lent log is the next record's.
 fn put_line(journal: &mut [u8], line: usize, next: Record, kept: u16, terms: &[u32], orders: &[u64])
-    requires { ⌜ Tellable next kept (now terms) (now orders) ⌝ }
-    requires { ⌜ ((line ≡ 0 → ⊥) → 23 + 24 * (next .last - kept) ≤ length (now journal)) ⌝ }
+    requires { ⌜ MayFit line next kept (now terms) (now orders) (now journal) ⌝ }
     ensures { λ _. ⌜ ((n : Record) (d : Decision) → d .next ≡ next → d .kept ≡ kept → line ≡ line-size n d
         → now (journal .exit) ≡ over (now (journal .entry)) 0 (line-bytes n d (now (terms .entry)) (now (orders .entry)))) ⌝ }
 {
@@ -94,9 +90,7 @@ fn put_line(journal: &mut [u8], line: usize, next: Record, kept: u16, terms: &[u
 
 // The step's messages. The lent log is the next record's.
 fn put_messages(messages: &mut [u8], send: Send, next: Record, terms: &[u32], orders: &[u64])
-    requires { ⌜ Aimed send next ⌝ }
-    requires { ⌜ Sendable next (now terms) (now orders) ⌝ }
-    requires { ⌜ sent-size send next ≤ length (now messages) ⌝ }
+    requires { ⌜ MessagesFit send next (now terms) (now orders) (now messages) ⌝ }
     ensures { λ _. ⌜ now (messages .exit) ≡ over (now (messages .entry)) 0
         (texts (messages-of send (state-of next (now (terms .entry)) (now (orders .entry))))) ⌝ }
 {
@@ -114,6 +108,30 @@ fn put_messages(messages: &mut [u8], send: Send, next: Record, terms: &[u32], or
     }
 }
 
+// A step's answer, known before anything is written: its number is the decision's own, or 5 where line or messages do not fit.
+fn answered(n: Record, d: Decision, journal: usize, messages: usize) -> Step
+    requires { ⌜ Measurable d ⌝ }
+    ensures { λ r. ⌜ r ≡ answered n d journal messages ⌝ }
+{
+    let next = d.next;
+    let send = d.send;
+    let refusal = d.refusal;
+    if refusal != 0 {
+        return refused(n, refusal);
+    }
+    let line = line_size(n, d);
+    let sent = sent_size(send, next);
+    if !fits(line, journal, sent, messages) {
+        return refused(n, 5);
+    }
+    Step {
+        refusal: 0,
+        state: next,
+        line,
+        sent,
+    }
+}
+
 // A step that adds no entry.
 pub fn finish(
     n: Record,
@@ -123,30 +141,20 @@ pub fn finish(
     journal: &mut [u8],
     messages: &mut [u8],
 ) -> Step
-    requires { ⌜ Sound n d [] (now terms) (now orders) ⌝ }
-    requires { ⌜ d .first ≡ d .count ⌝ }
+    requires { ⌜ AddsNone n d (now terms) (now orders) ⌝ }
     ensures { λ r. ⌜ Runs (decided d [] (now (terms .entry)) (now (orders .entry))) n
         (now (terms .entry)) (now (orders .entry)) (now (journal .entry)) (now (messages .entry)) r
         (now (terms .entry)) (now (orders .entry)) (now (journal .exit)) (now (messages .exit)) ⌝ }
 {
-    if d.refusal != 0 {
-        return refused(n, d.refusal);
-    }
     let next = d.next;
     let send = d.send;
-    let line = line_size(n, d);
-    let sent = sent_size(send, next);
-    if !fits(line, journal.len(), sent, messages.len()) {
-        return refused(n, 5);
+    let answer = answered(n, d, journal.len(), messages.len());
+    if answer.refusal != 0 {
+        return answer;
     }
-    put_line(journal, line, next, d.kept, terms, orders);
+    put_line(journal, answer.line, next, d.kept, terms, orders);
     put_messages(messages, send, next, terms, orders);
-    Step {
-        refusal: 0,
-        state: next,
-        line,
-        sent,
-    }
+    answer
 }
 
 // A step that may add some of the entries that were offered: they are stored once the step is sure.
@@ -166,14 +174,9 @@ pub fn finish_adding(
 {
     let next = d.next;
     let send = d.send;
-    let refusal = d.refusal;
-    if refusal != 0 {
-        return refused(n, refusal);
-    }
-    let line = line_size(n, d);
-    let sent = sent_size(send, next);
-    if !fits(line, journal.len(), sent, messages.len()) {
-        return refused(n, 5);
+    let answer = answered(n, d, journal.len(), messages.len());
+    if answer.refusal != 0 {
+        return answer;
     }
     let first = d.first as usize;
     rules::store(
@@ -184,12 +187,7 @@ pub fn finish_adding(
         first,
         d.count as usize,
     );
-    put_line(journal, line, next, d.kept, &terms[..], &orders[..]);
+    put_line(journal, answer.line, next, d.kept, &terms[..], &orders[..]);
     put_messages(messages, send, next, &terms[..], &orders[..]);
-    Step {
-        refusal: 0,
-        state: next,
-        line,
-        sent,
-    }
+    answer
 }

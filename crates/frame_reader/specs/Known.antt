@@ -26,6 +26,16 @@ pub record KindOf (s : List ℕ) (k : ℕ) : Type 0 where
   pub most : k < 5
   pub line : run s + 1 ≡ length s
 
+-- So many entries stand in the text from a place on, which is no later than an append's,
+pub record EntriesIn (s : List ℕ) (from count : ℕ) : Type 0 where
+  pub early : from ≤ 34
+  pub inside : from + 24 * count ≤ run s
+
+-- and one of a frame's four places for them.
+pub record EntryIn (s : List ℕ) (from at count : ℕ) : Type 0 where
+  pub place : at < entry-limit
+  pub entries : EntriesIn s from count
+
 -- As long as its kind and count tell, with at most four entries: what `readable` asks of a text that is headed.
 abbrev pub is-long : List ℕ → Bool
 is-long s = eqb (length s) (text-size (size (kind s) (count s))) && leb (count s) entry-limit

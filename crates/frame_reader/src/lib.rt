@@ -15,7 +15,7 @@ ghost use Rattle.digits.specs.Digits.{field, run};
 ghost use Rattle.frames.specs.Limits.{entry-limit};
 ghost use Rattle.frames.specs.Fields.{no-entry, places, fields-of, no-fields, answer};
 ghost use Rattle.frames.specs.Reading as reading;
-ghost use Rattle.frame_reader.specs.Known.{LineOf, FixedOf, KindOf, is-long};
+ghost use Rattle.frame_reader.specs.Known.{LineOf, FixedOf, KindOf, EntriesIn, EntryIn, is-long};
 
 // Digits, ended by one line feed, and nothing after it. (An inside call: lines of text and of the journal are looked at by it too.)
 pub fn is_line(s: &[u8]) -> bool
@@ -146,9 +146,7 @@ fn append_answer(s: &[u8]) -> Fields
 
 // The entry at a place of the four: what stands there, or none past the count.
 fn entry(s: &[u8], from: usize, at: usize, count: u8) -> Entry
-    requires { ⌜ at < entry-limit ⌝ }
-    requires { ⌜ from ≤ 34 ⌝ }
-    requires { ⌜ from + 24 * count ≤ run (now s) ⌝ }
+    requires { ⌜ EntryIn (now s) from at count ⌝ }
     ensures { λ r. ⌜ r ≡ getD (reading.entries-at (now (s .entry)) from count) at no-entry ⌝ }
 {
     if at < count as usize {
@@ -163,8 +161,7 @@ fn entry(s: &[u8], from: usize, at: usize, count: u8) -> Entry
 
 // So many entries from a place of the text on. (An inside call: the journal's lines are read by it too.)
 pub fn entries(s: &[u8], from: usize, count: u8) -> [Entry; Fields::ENTRIES]
-    requires { ⌜ from ≤ 34 ⌝ }
-    requires { ⌜ from + 24 * count ≤ run (now s) ⌝ }
+    requires { ⌜ EntriesIn (now s) from count ⌝ }
     ensures { λ r. ⌜ r ≡ places (reading.entries-at (now (s .entry)) from count) ⌝ }
 {
     let a = entry(s, from, 0, count);

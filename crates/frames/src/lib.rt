@@ -1,13 +1,13 @@
 // 01's frames: the fields of a message, its length, and the rules that it obeys. Reading is in `frame_reader`, writing in `frame_writer`.
+mod frame_rules;
 mod lengths;
-mod rules;
 
+pub use frame_rules::in_order;
+pub use frame_rules::is_box;
+pub use frame_rules::is_frame;
+pub use frame_rules::obeys;
 pub use lengths::size;
 pub use lengths::text_size;
-pub use rules::in_order;
-pub use rules::is_box;
-pub use rules::is_frame;
-pub use rules::obeys;
 
 // An entry of a log: the term it was made in and the order, its 8 bytes as one number, the first byte highest.
 pub struct Entry {

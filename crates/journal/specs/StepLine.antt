@@ -33,7 +33,7 @@ vote-low members vote h = go (eqb vote 0) refl h
   where
     go : (b : Bool) → eqb vote 0 ≡ b → (b || (is-box vote && holds members vote)) ≡ true → vote ≤ boxes
     go true e q = omega (arith, eqb-true vote 0 e)
-    go false e q = box-range vote (and-left (is-box vote) _ q) .1
+    go false e q = box-range vote (and-left (is-box vote) _ q) .most
 
 -- Where the stored part is the same, the test for it passes.
 pub same-when : (s t : State) → restarted s ≡ restarted t → same-stored s t ≡ true

@@ -78,9 +78,7 @@ sender-box (append-answer from to term reply index) h = four true (is-box from) 
 
 module _ (f : Fields) (h : one-frame f ≡ true) where
   pub from-box : IsBox (f .from)
-  from-box =
-      let range = box-range (f .from) (rw (fields-from f) at (sender-box (message-of f) (whole f h .obeyed))) in
-      record { least = range .0; most = range .1 }
+  from-box = box-range (f .from) (rw (fields-from f) at (sender-box (message-of f) (whole f h .obeyed)))
 
   -- an append's entries are few, and there is room for them
   offers : f .kind ≡ 3 → Offers (f .term) (f .index) (f .prior) (listed (f .entries) 0 (f .count))

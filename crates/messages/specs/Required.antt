@@ -22,6 +22,11 @@ pub record Offered (b : Record) (index count : ℕ) (terms : List ℕ) : Type 0 
   pub few : count ≤ entry-limit
   pub room : index + count ≤ log-limit
 
+-- And it joins the log: its previous index is in it.
+pub record Joined (b : Record) (index count : ℕ) (terms : List ℕ) : Type 0 where
+  pub offered : Offered b index count terms
+  pub joint : index ≤ b .last
+
 -- A message from another member, at a good record.
 pub record From (b : Record) (from : ℕ) (terms orders : List ℕ) : Type 0 where
   pub ready : Ready b terms orders

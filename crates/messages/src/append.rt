@@ -7,12 +7,12 @@ use record::Decision;
 use record::Record;
 use record::Send;
 ghost use mathlib.Core.List.{List};
-ghost use Prim.Native.Nat.{ℕ, _≤_};
+ghost use Prim.Native.Nat.{ℕ};
 ghost use Rattle.frames.specs.Fields.{listed};
 ghost use Rattle.raft.specs.Append.{accept, on-append};
 ghost use Rattle.record.specs.Calls.{state-of};
 ghost use Rattle.record.specs.Deciding.{Decides};
-ghost use Rattle.messages.specs.Required.{Offered};
+ghost use Rattle.messages.specs.Required.{Offered, Joined};
 
 // The search's place decides: all is held already, a cut at or below commit, or entries that are added.
 fn accept(
@@ -24,8 +24,7 @@ fn accept(
     count: u8,
     terms: &[u32],
 ) -> Decision
-    requires { ⌜ Offered t index count (now terms) ⌝ }
-    requires { ⌜ index ≤ t .last ⌝ }
+    requires { ⌜ Joined t index count (now terms) ⌝ }
     ensures { λ r. ⌜ ((orders : List ℕ) → Decides (t .last) r entries (now (terms .entry)) orders
         (accept (state-of t (now (terms .entry)) orders) from index commit (listed entries 0 count))) ⌝ }
 {

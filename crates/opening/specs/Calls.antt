@@ -27,7 +27,19 @@ pub record LentLog (terms orders : List ℕ) : Type 0 where
   pub terms-long : length terms ≡ log-limit
   pub orders-long : length orders ≡ log-limit
 
+-- A log made aside, of so many entries, and places for them in the lent one.
+pub record HandsOver (terms orders terms-made orders-made : List ℕ) (last : ℕ) : Type 0 where
+  pub in-terms : last ≤ length terms
+  pub in-orders : last ≤ length orders
+  pub in-terms-made : last ≤ length terms-made
+  pub in-orders-made : last ≤ length orders-made
+
 -- ---- one line
+
+-- What the look at a line's rules requires: the log's terms are lent whole, and the line has no more entries than a line has.
+pub record Lookable (l : LineFields) (terms : List ℕ) : Type 0 where
+  pub terms-long : length terms ≡ log-limit
+  pub few : l .count ≤ entry-limit
 
 -- What the fields' reader requires: the form of a line, and no more entries than a line has.
 pub record Readable (line : List ℕ) : Type 0 where

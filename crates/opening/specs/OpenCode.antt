@@ -96,13 +96,13 @@ module _ (me : ℕ) (bytes : List ℕ) {end mask : ℕ} (e : end ≡ 0 + first-l
       unfolding fresh
       open-begins lent = record { lent = lent; inside = head-end .1; behind = head-end .0; room = rw g (omega arith) }
 
-      fresh-state : (made taken : List ℕ) → state-of n made taken ≡ fresh me mask
+      fresh-state : (terms-made orders-made : List ℕ) → state-of n terms-made orders-made ≡ fresh me mask
       unfolding fresh entries-of
-      fresh-state made taken = rw g
+      fresh-state terms-made orders-made = rw g
 
-      pub open-finds : (made₀ taken₀ made taken : List ℕ) (found : answers.Opened) → Finds n bytes end made₀ taken₀ found made taken
-          → Found found made taken (opening me bytes)
-      open-finds made₀ taken₀ made taken found k = rw (open-head, ← fresh-state made₀ taken₀) k
+      pub open-finds : (terms-made₀ orders-made₀ terms-made orders-made : List ℕ) (found : answers.Opened) → Finds n bytes end terms-made₀ orders-made₀ found terms-made orders-made
+          → Found found terms-made orders-made (opening me bytes)
+      open-finds terms-made₀ orders-made₀ terms-made orders-made found k = rw (open-head, ← fresh-state terms-made₀ orders-made₀) k
 
 -- ---- the answer
 
@@ -113,13 +113,13 @@ module _ (me : ℕ) (bytes terms orders : List ℕ) where
   unfolding opens opening-by
   opens-headless e f = rw (e, f)
 
-  module _ (made taken : List ℕ) (found : answers.Opened) (k : Found found made taken (opening me bytes)) where
+  module _ (terms-made orders-made : List ℕ) (found : answers.Opened) (k : Found found terms-made orders-made (opening me bytes)) where
     -- a line that breaks a rule
     pub opens-broken : (found .refusal ≡ 0 → ⊥) → Opens me bytes terms orders found terms orders
     unfolding opens opening-by Found
     opens-broken h = go (opening me bytes) refl k
       where
-        go : (o : Opened) → opening me bytes ≡ o → Found found made taken o → Opens me bytes terms orders found terms orders
+        go : (o : Opened) → opening me bytes ≡ o → Found found terms-made orders-made o → Opens me bytes terms orders found terms orders
         go (opened s n) e f = absurd (h (ap (λ (x : answers.Opened). x .refusal) (f .0)))
         go headless e f = absurd f
         go (broken line) e f = rw (e, f)
@@ -129,23 +129,23 @@ module _ (me : ℕ) (bytes terms orders : List ℕ) where
     unfolding Found
     found-room h = go (opening me bytes) k
       where
-        go : (o : Opened) → Found found made taken o → found .state .last ≤ log-limit
+        go : (o : Opened) → Found found terms-made orders-made o → found .state .last ≤ log-limit
         go (opened s n) f = rw (f .0) (f .2)
         go headless f = absurd f
         go (broken line) f = absurd (omega (arith, h, ap (λ (x : answers.Opened). x .refusal) f))
 
     -- and is handed over
-    pub opens-found : {terms' orders' : List ℕ} → found .refusal ≡ 0 → length made ≡ log-limit → length taken ≡ log-limit
-        → terms' ≡ over terms 0 (take (found .state .last) made) → orders' ≡ over orders 0 (take (found .state .last) taken)
+    pub opens-found : {terms' orders' : List ℕ} → found .refusal ≡ 0 → length terms-made ≡ log-limit → length orders-made ≡ log-limit
+        → terms' ≡ over terms 0 (take (found .state .last) terms-made) → orders' ≡ over orders 0 (take (found .state .last) orders-made)
         → Opens me bytes terms orders found terms' orders'
     unfolding opens opening-by Found
     opens-found {terms'} {orders'} h p q t o = go (opening me bytes) refl k
       where
-        go : (x : Opened) → opening me bytes ≡ x → Found found made taken x → Opens me bytes terms orders found terms' orders'
+        go : (x : Opened) → opening me bytes ≡ x → Found found terms-made orders-made x → Opens me bytes terms orders found terms' orders'
         go (opened s n) e f =
             let log = s .log in
-            let te : take (length log) made ≡ terms-of log = sym (terms-are made taken 0 (length log) (omega (arith, f .2))) ∙ ap terms-of (f .1) in
-            let od : take (length log) taken ≡ orders-of log = sym (orders-are made taken 0 (length log) (omega (arith, f .2))) ∙ ap orders-of (f .1) in
+            let te : take (length log) terms-made ≡ terms-of log = sym (terms-are terms-made orders-made 0 (length log) (omega (arith, f .2))) ∙ ap terms-of (f .1) in
+            let od : take (length log) orders-made ≡ orders-of log = sym (orders-are terms-made orders-made 0 (length log) (omega (arith, f .2))) ∙ ap orders-of (f .1) in
             rw (e, t, o, f .0, te, od)
         go headless e f = absurd f
         go (broken line) e f = absurd (omega (arith, h, ap (λ (x : answers.Opened). x .refusal) f))

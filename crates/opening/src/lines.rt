@@ -9,12 +9,11 @@ ghost use mathlib.Core.Path.{_≡_};
 ghost use mathlib.Core.Bool.{cond};
 ghost use mathlib.Core.List.{List};
 ghost use Prim.Native.Nat.{ℕ, _≤_};
-ghost use lib.ListN.{length};
-ghost use Rattle.frames.specs.Limits.{log-limit, entry-limit};
+ghost use Rattle.frames.specs.Limits.{entry-limit};
 ghost use Rattle.record.specs.Calls.{state-of};
 ghost use Rattle.journal.specs.Lines.{mask-in, head-shaped, line-shaped, line-in};
 ghost use Rattle.journal.specs.Opening.{is-head, allows};
-ghost use Rattle.opening.specs.Calls.{Readable, line-of, allows-numbers};
+ghost use Rattle.opening.specs.Calls.{Readable, Lookable, line-of, allows-numbers};
 
 // The form of a head: one line, version 01, kind 11, 4 bytes long.
 pub fn is_head_shaped(s: &[u8]) -> bool
@@ -91,8 +90,7 @@ fn allows_numbers(n: Record, l: LineFields) -> bool
 
 // Every rule of a line behind the record so far.
 pub fn is_allowed(n: Record, l: LineFields, terms: &[u32]) -> bool
-    requires { ⌜ length (now terms) ≡ log-limit ⌝ }
-    requires { ⌜ l .count ≤ entry-limit ⌝ }
+    requires { ⌜ Lookable l (now terms) ⌝ }
     ensures { λ r. ⌜ ((orders : List ℕ) → r ≡ allows (state-of n (now (terms .entry)) orders) (line-of l)) ⌝ }
 {
     if !allows_numbers(n, l) {

@@ -13,10 +13,10 @@ use record::Record;
 use text::line_end;
 ghost use mathlib.Core.Path.{_≡_};
 ghost use Prim.Native.Nat.{_+_, _≤_};
-ghost use lib.ListN.{length, take};
+ghost use lib.ListN.{take};
 ghost use Rattle.digits.specs.Room.{over};
 ghost use Rattle.frames.specs.Limits.{log-limit};
-ghost use Rattle.opening.specs.Calls.{LentLog, Advances, Replays, none, Begins, Finds, Opens};
+ghost use Rattle.opening.specs.Calls.{LentLog, HandsOver, Advances, Replays, none, Begins, Finds, Opens};
 
 // 10: the record stays as it was.
 fn breaks(n: Record) -> Replayed
@@ -122,18 +122,21 @@ fn replay_all(
 }
 
 // The made log's entries, handed over.
-fn hand_over(terms: &mut [u32], orders: &mut [u64], made: &[u32], taken: &[u64], last: usize)
-    requires { ⌜ last ≤ length (now terms) ⌝ }
-    requires { ⌜ last ≤ length (now orders) ⌝ }
-    requires { ⌜ last ≤ length (now made) ⌝ }
-    requires { ⌜ last ≤ length (now taken) ⌝ }
-    ensures { λ _. ⌜ now (terms .exit) ≡ over (now (terms .entry)) 0 (take last (now (made .entry))) ⌝ }
-    ensures { λ _. ⌜ now (orders .exit) ≡ over (now (orders .entry)) 0 (take last (now (taken .entry))) ⌝ }
+fn hand_over(
+    terms: &mut [u32],
+    orders: &mut [u64],
+    terms_made: &[u32],
+    orders_made: &[u64],
+    last: usize,
+)
+    requires { ⌜ HandsOver (now terms) (now orders) (now «terms_made») (now «orders_made») last ⌝ }
+    ensures { λ _. ⌜ now (terms .exit) ≡ over (now (terms .entry)) 0 (take last (now («terms_made» .entry))) ⌝ }
+    ensures { λ _. ⌜ now (orders .exit) ≡ over (now (orders .entry)) 0 (take last (now («orders_made» .entry))) ⌝ }
 {
     let mut i = 0;
     while i < last {
-        terms[i] = made[i];
-        orders[i] = taken[i];
+        terms[i] = terms_made[i];
+        orders[i] = orders_made[i];
         i += 1;
     }
 }
@@ -152,13 +155,25 @@ pub fn open(
     if mask == 0 {
         return refused(11, 0);
     }
-    let mut made = [0u32; Record::LOG];
-    let mut taken = [0u64; Record::LOG];
-    let found = replay_all(Record::fresh(me, mask), bytes, end, &mut made, &mut taken);
+    let mut terms_made = [0u32; Record::LOG];
+    let mut orders_made = [0u64; Record::LOG];
+    let found = replay_all(
+        Record::fresh(me, mask),
+        bytes,
+        end,
+        &mut terms_made,
+        &mut orders_made,
+    );
     if found.refusal != 0 {
         return found;
     }
     let state = found.state;
-    hand_over(terms, orders, &made, &taken, state.last as usize);
+    hand_over(
+        terms,
+        orders,
+        &terms_made,
+        &orders_made,
+        state.last as usize,
+    );
     found
 }

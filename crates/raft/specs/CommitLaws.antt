@@ -154,42 +154,42 @@ term-at-mono t log h i j l m = rw (term-there log i, term-there log j) (terms-ri
 pub term-at-most : (t : ℕ) (log : List Entry) → in-order 0 t log ≡ true → (j : ℕ) → j ≤ length log → term-at log j ≤ t
 term-at-most t log h j m = rw (term-there log j) (terms-from no-entry t log h j m .1)
 
--- ---- the best of what the boxes match
+-- ---- the largest-matched of what the boxes match
 
--- A box's match, where it is above the best so far and a majority matches it.
-unfoldable pub better : State → ℕ → ℕ → ℕ
-better s b i = cond (ltb b (matches s i) && is-matched s (matches s i)) (matches s i) b
+-- A box's match, where it is above the largest-matched so far and a majority matches it.
+unfoldable pub larger-matched : State → ℕ → ℕ → ℕ
+larger-matched s b i = cond (ltb b (matches s i) && is-matched s (matches s i)) (matches s i) b
 
 -- The largest match of a box that a majority matches, 0 where there is none.
-unfoldable pub best : State → ℕ
-best s = better s (better s (better s (better s (better s (better s (better s 0 1) 2) 3) 4) 5) 6) 7
+unfoldable pub largest-matched : State → ℕ
+largest-matched s = larger-matched s (larger-matched s (larger-matched s (larger-matched s (larger-matched s (larger-matched s (larger-matched s 0 1) 2) 3) 4) 5) 6) 7
 
 -- The same over the first n boxes.
-unfoldable best-to : State → ℕ → ℕ
-best-to s zero = 0
-best-to s (suc n) = better s (best-to s n) (suc n)
+unfoldable largest-to : State → ℕ → ℕ
+largest-to s zero = 0
+largest-to s (suc n) = larger-matched s (largest-to s n) (suc n)
 
--- a look at a box never lowers the best, nor leaves it below that box's match where a majority matches it
-better-least : (s : State) (b i : ℕ) → (b ≤ better s b i) × (is-matched s (matches s i) ≡ true → matches s i ≤ better s b i)
-unfolding better
-better-least s b i =
+-- a look at a box never lowers the largest-matched, nor leaves it below that box's match where a majority matches it
+larger-matched-least : (s : State) (b i : ℕ) → (b ≤ larger-matched s b i) × (is-matched s (matches s i) ≡ true → matches s i ≤ larger-matched s b i)
+unfolding larger-matched
+larger-matched-least s b i =
     by-test (λ x. (b ≤ x) × (is-matched s (matches s i) ≡ true → matches s i ≤ x))
     (ltb b (matches s i) && is-matched s (matches s i)) (matches s i) b
     (λ e. (omega (arith, ltb-true b (matches s i) (and-left (ltb b (matches s i)) _ e)), λ q. le-refl _))
     (λ e. (le-refl _, λ q. ltb-false b (matches s i) (not-first _ (is-matched s (matches s i)) e q)))
 
--- so the best is at least every box's match that a majority matches
-best-takes : (s : State) (n i : ℕ) → 1 ≤ i → i ≤ n → is-matched s (matches s i) ≡ true → matches s i ≤ best-to s n
-unfolding best-to
-best-takes s zero i l m q = absurd (omega arith)
-best-takes s (suc n) i l m q = go (decLe i n) (best-takes s n i l)
+-- so the largest-matched is at least every box's match that a majority matches
+largest-takes : (s : State) (n i : ℕ) → 1 ≤ i → i ≤ n → is-matched s (matches s i) ≡ true → matches s i ≤ largest-to s n
+unfolding largest-to
+largest-takes s zero i l m q = absurd (omega arith)
+largest-takes s (suc n) i l m q = go (decLe i n) (largest-takes s n i l)
   where
-    go : Dec (i ≤ n) → (i ≤ n → is-matched s (matches s i) ≡ true → matches s i ≤ best-to s n)
-        → matches s i ≤ better s (best-to s n) (suc n)
-    go (yes k) below = omega (arith, below k q, better-least s (best-to s n) (suc n))
+    go : Dec (i ≤ n) → (i ≤ n → is-matched s (matches s i) ≡ true → matches s i ≤ largest-to s n)
+        → matches s i ≤ larger-matched s (largest-to s n) (suc n)
+    go (yes k) below = omega (arith, below k q, larger-matched-least s (largest-to s n) (suc n))
     go (no k) below =
         let same : i ≡ suc n = omega arith in
-        rw same (better-least s (best-to s n) (suc n) .1 (rw same at q))
+        rw same (larger-matched-least s (largest-to s n) (suc n) .1 (rw same at q))
 
 -- what is not n is at least n exactly where it is above n
 same-leb : (n m : ℕ) → (m ≡ n → ⊥) → leb n m ≡ leb (suc n) m
@@ -207,16 +207,16 @@ same-matching s n h = rw (same 1 refl, same 2 refl, same 3 refl, same 4 refl, sa
     same : (i : ℕ) → is-box i ≡ true → leb n (matches s i) ≡ leb (suc n) (matches s i)
     same i b = same-leb n (matches s i) (h i b)
 
--- and where a majority matches an index above the best, one matches the next
-matched-next : (s : State) (n : ℕ) → best-to s boxes < n → is-matched s n ≡ true → is-matched s (suc n) ≡ true
+-- and where a majority matches an index above the largest-matched, one matches the next
+matched-next : (s : State) (n : ℕ) → largest-to s boxes < n → is-matched s n ≡ true → is-matched s (suc n) ≡ true
 unfolding is-matched
 matched-next s n h q = rw (same-matching s n apart) at q
   where
     apart : (i : ℕ) → is-box i ≡ true → matches s i ≡ n → ⊥
     apart i b e =
-        omega (arith, best-takes s boxes i (leb-true 1 i (and-left (leb 1 i) _ b)) (leb-true i boxes (and-right (leb 1 i) _ b)) (rw e q))
+        omega (arith, largest-takes s boxes i (leb-true 1 i (and-left (leb 1 i) _ b)) (leb-true i boxes (and-right (leb 1 i) _ b)) (rw e q))
 
--- A best so far: in range, and a majority matches it.
+-- A largest-matched so far: in range, and a majority matches it.
 record Fair (s : State) (b : ℕ) : Type 0 where
   most : b ≤ last-index s
   matched : 0 < b → is-matched s b ≡ true
@@ -237,86 +237,86 @@ module _ (s : State) (r : Ranged s) where
   unfolding matches
   me-matches = rw (eq-eqb (s .me) (s .me) refl)
 
-  -- each best so far is fair
-  best-fair : (n : ℕ) → n ≤ boxes → Fair s (best-to s n)
-  unfolding best-to better
-  best-fair zero l = record { most = omega arith; matched = λ h. absurd (omega arith) }
-  best-fair (suc n) l =
-      by-test (Fair s) (ltb (best-to s n) (matches s (suc n)) && is-matched s (matches s (suc n))) (matches s (suc n)) (best-to s n)
-      (λ e. record { most = matches-low (suc n) (omega arith) l; matched = λ h. and-right (ltb (best-to s n) (matches s (suc n))) _ e })
-      (λ e. best-fair n (omega arith))
+  -- each largest-matched so far is fair
+  largest-fair : (n : ℕ) → n ≤ boxes → Fair s (largest-to s n)
+  unfolding largest-to larger-matched
+  largest-fair zero l = record { most = omega arith; matched = λ h. absurd (omega arith) }
+  largest-fair (suc n) l =
+      by-test (Fair s) (ltb (largest-to s n) (matches s (suc n)) && is-matched s (matches s (suc n))) (matches s (suc n)) (largest-to s n)
+      (λ e. record { most = matches-low (suc n) (omega arith) l; matched = λ h. and-right (ltb (largest-to s n) (matches s (suc n))) _ e })
+      (λ e. largest-fair n (omega arith))
 
-  -- an index in range that a majority matches is not above the best: else so would be the next, and so on to the last, which the box
+  -- an index in range that a majority matches is not above the largest-matched: else so would be the next, and so on to the last, which the box
   -- itself matches
-  best-top : (d n : ℕ) → n + d ≡ last-index s → is-matched s n ≡ true → n ≤ best-to s boxes
-  best-top zero n e q =
+  largest-top : (d n : ℕ) → n + d ≡ last-index s → is-matched s n ≡ true → n ≤ largest-to s boxes
+  largest-top zero n e q =
       let same : n ≡ matches s (s .me) = omega (arith, me-matches) in
-      rw same (best-takes s boxes (s .me) (r .me-least) (r .me-most) (rw same at q))
-  best-top (suc d) n e q = go (decLe n (best-to s boxes)) (best-top d (suc n) (omega arith))
+      rw same (largest-takes s boxes (s .me) (r .me-least) (r .me-most) (rw same at q))
+  largest-top (suc d) n e q = go (decLe n (largest-to s boxes)) (largest-top d (suc n) (omega arith))
     where
-      go : Dec (n ≤ best-to s boxes) → (is-matched s (suc n) ≡ true → suc n ≤ best-to s boxes) → n ≤ best-to s boxes
+      go : Dec (n ≤ largest-to s boxes) → (is-matched s (suc n) ≡ true → suc n ≤ largest-to s boxes) → n ≤ largest-to s boxes
       go (yes k) next = k
       go (no k) next = omega (arith, next (matched-next s n (omega arith) q))
 
-  -- the best is the largest index that a majority matches
-  pub best-highest : Highest (is-matched s) 0 (last-index s) (best s)
-  unfolding best best-to
-  best-highest =
-      let f = best-fair boxes (omega arith) in
+  -- the largest-matched is the largest index that a majority matches
+  pub largest-highest : Highest (is-matched s) 0 (last-index s) (largest-matched s)
+  unfolding largest-matched largest-to
+  largest-highest =
+      let f = largest-fair boxes (omega arith) in
       record {
         least = omega arith;
         most = omega (arith, f .most);
         passes = f .matched;
-        top = λ i l m q. best-top (last-index s - i) i (omega arith) q;
+        top = λ i l m q. largest-top (last-index s - i) i (omega arith) q;
       }
 
   -- and so in range
-  pub best-low : best s ≤ last-index s
-  best-low = omega (arith, best-highest .most)
+  pub largest-low : largest-matched s ≤ last-index s
+  largest-low = omega (arith, largest-highest .most)
 
   -- where it is above commit and of the current term, it is the largest such; where not, there is none, for below an older entry all are
   -- older
   quick-highest : Highest (settles s) (s .commit) (last-index s)
-      (cond (ltb (s .commit) (best s) && eqb (term-at (s .log) (best s)) (s .term)) (best s) (s .commit))
+      (cond (ltb (s .commit) (largest-matched s) && eqb (term-at (s .log) (largest-matched s)) (s .term)) (largest-matched s) (s .commit))
   quick-highest =
       by-test (Highest (settles s) (s .commit) (last-index s))
-      (ltb (s .commit) (best s) && eqb (term-at (s .log) (best s)) (s .term)) (best s) (s .commit) found none
+      (ltb (s .commit) (largest-matched s) && eqb (term-at (s .log) (largest-matched s)) (s .term)) (largest-matched s) (s .commit) found none
     where
-      below : (i : ℕ) → s .commit < i → i ≤ last-index s → settles s i ≡ true → i ≤ best s
-      below i l m p = best-highest .top i (omega arith) m (and-right (eqb (term-at (s .log) i) (s .term)) _ p)
+      below : (i : ℕ) → s .commit < i → i ≤ last-index s → settles s i ≡ true → i ≤ largest-matched s
+      below i l m p = largest-highest .top i (omega arith) m (and-right (eqb (term-at (s .log) i) (s .term)) _ p)
 
-      found : (ltb (s .commit) (best s) && eqb (term-at (s .log) (best s)) (s .term)) ≡ true
-          → Highest (settles s) (s .commit) (last-index s) (best s)
+      found : (ltb (s .commit) (largest-matched s) && eqb (term-at (s .log) (largest-matched s)) (s .term)) ≡ true
+          → Highest (settles s) (s .commit) (last-index s) (largest-matched s)
       found e =
-          let above : s .commit < best s = ltb-true _ _ (and-left _ (eqb (term-at (s .log) (best s)) (s .term)) e) in
+          let above : s .commit < largest-matched s = ltb-true _ _ (and-left _ (eqb (term-at (s .log) (largest-matched s)) (s .term)) e) in
           record {
             least = omega arith;
-            most = omega (arith, best-low);
-            passes = λ h. and-both _ _ (and-right (ltb (s .commit) (best s)) _ e) (best-highest .passes (omega arith));
+            most = omega (arith, largest-low);
+            passes = λ h. and-both _ _ (and-right (ltb (s .commit) (largest-matched s)) _ e) (largest-highest .passes (omega arith));
             top = below;
           }
 
-      current : (i : ℕ) → i ≤ best s → settles s i ≡ true → term-at (s .log) (best s) ≡ s .term
+      current : (i : ℕ) → i ≤ largest-matched s → settles s i ≡ true → term-at (s .log) (largest-matched s) ≡ s .term
       current i l p =
           omega (
             arith,
             eqb-true (term-at (s .log) i) (s .term) (and-left _ (is-matched s i) p),
-            term-at-mono (s .term) (s .log) (r .ordered) i (best s) l best-low,
-            term-at-most (s .term) (s .log) (r .ordered) (best s) best-low,
+            term-at-mono (s .term) (s .log) (r .ordered) i (largest-matched s) l largest-low,
+            term-at-most (s .term) (s .log) (r .ordered) (largest-matched s) largest-low,
           )
 
-      none : (ltb (s .commit) (best s) && eqb (term-at (s .log) (best s)) (s .term)) ≡ false
+      none : (ltb (s .commit) (largest-matched s) && eqb (term-at (s .log) (largest-matched s)) (s .term)) ≡ false
           → Highest (settles s) (s .commit) (last-index s) (s .commit)
       none e =
           none-highest (settles s) (s .commit) (last-index s)
           (λ i l m p. omega (
             arith,
             below i l m p,
-            ltb-false (s .commit) (best s) (not-first _ _ e (eq-eqb _ _ (current i (below i l m p) p))),
+            ltb-false (s .commit) (largest-matched s) (not-first _ _ e (eq-eqb _ _ (current i (below i l m p) p))),
           ))
 
   -- the quick way to the commit
-  pub settled-quick : settled s ≡ cond (ltb (s .commit) (best s) && eqb (term-at (s .log) (best s)) (s .term)) (best s) (s .commit)
+  pub settled-quick : settled s ≡ cond (ltb (s .commit) (largest-matched s) && eqb (term-at (s .log) (largest-matched s)) (s .term)) (largest-matched s) (s .commit)
   unfolding settled
   settled-quick = one-highest (settles s) (s .commit) (last-index s) _ _ (is-highest (settles s) (s .commit) (last-index s)) quick-highest
 

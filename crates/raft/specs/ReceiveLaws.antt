@@ -271,7 +271,7 @@ receive-ends P s each bytes = go (reading bytes) refl
 start-facts : (s : State) (from to term : ℕ) → is-other (s .me) (s .members) from ≡ true → is-start from to term ≡ true → Sender s from term
 start-facts s from to term o h =
     let t = four true (is-box from) (is-box to) (leb 1 term) h in
-    record { least = box-range from (t .1) .0; most = box-range from (t .1) .1; other = o; early = leb-true _ _ (t .3) }
+    record { least = box-range from (t .1) .least; most = box-range from (t .1) .most; other = o; early = leb-true _ _ (t .3) }
 
 -- A message that arrives has such a sender.
 pub sent-by : (s : State) (m : Message) → Arrives s m → Sender s (sender m) (term-of m)

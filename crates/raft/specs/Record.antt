@@ -115,7 +115,7 @@ is-membership me members = is-box me && ltb members masks && holds members me
 unfoldable pub is-vote : ℕ → ℕ → Bool
 is-vote members vote = eqb vote 0 || (is-box vote && holds members vote)
 
--- "A candidate or leader has voted for itself, in a term of at least 1."
+-- A role is one of the three; "a candidate or leader has voted for itself, in a term of at least 1."
 unfoldable pub is-role : ℕ → ℕ → ℕ → ℕ → Bool
 is-role role term vote me = eqb role follower || (leb role leader && eqb vote me && leb 1 term)
 
@@ -134,7 +134,8 @@ sends-to s i = eqb (s .role) leader && is-other (s .me) (s .members) i
 abbrev pub has-progress : State → ℕ → Bool
 has-progress s i = is-progress (sends-to s i) (last-index s) (of-box (s .lead .next) i) (of-box (s .lead .matched) i)
 
--- Every rule of a record; "Commit is at most the last index" among them.
+-- Every rule of a record; "Commit is at most the last index" among them. It says nothing of how large a term or an order may be: in the code a term is
+-- a u32 and an order a u64, 8 bytes, so that they are below 2^32 and 2^64 in whatever record and log is lent.
 unfoldable pub good : State → Bool
 good s =
     is-membership (s .me) (s .members) && is-vote (s .members) (s .vote) && leb (last-index s) log-limit

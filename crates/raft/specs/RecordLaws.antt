@@ -6,7 +6,7 @@ use mathlib.Core.Bool.{Bool, true, _&&_}
 use lib.Dec.{eqb, ltb, leb}
 use borrow.Author.Tests.{eqb-true, ltb-true, leb-true, le-leb, ne-eqb}
 use Rattle.digits.specs.Tests.{and-left, and-right}
-use Rattle.frames.specs.Limits.{boxes, masks, log-limit}
+use Rattle.frames.specs.Limits.{boxes, IsBox, masks, log-limit}
 use Rattle.frames.specs.Rules.{is-box, in-order}
 use Rattle.frames.specs.Clauses.{four}
 use Rattle.raft.specs.Majority.{holds}
@@ -14,8 +14,8 @@ use Rattle.raft.specs.Record.{State, leader, last-index, of-box, is-othe
 pub use Rattle.raft.specs.MajorityLaws.{at-box}
 
 -- a box's number is from 1 to 7
-pub box-range : (i : ℕ) → is-box i ≡ true → (1 ≤ i) × (i ≤ boxes)
-box-range i h = (leb-true 1 i (and-left (leb 1 i) _ h), leb-true i boxes (and-right (leb 1 i) _ h))
+pub box-range : (i : ℕ) → is-box i ≡ true → IsBox i
+box-range i h = record { least = leb-true 1 i (and-left (leb 1 i) _ h); most = leb-true i boxes (and-right (leb 1 i) _ h) }
 
 -- and a number from 1 to 7 is a box's
 pub range-box : (i : ℕ) → 1 ≤ i → i ≤ boxes → is-box i ≡ true
@@ -86,7 +86,7 @@ facts-good s g =
     )
   where
     sent : (i : ℕ) → is-box i ≡ true → has-progress s i ≡ true
-    sent i b = g .sent i (box-range i b .0) (box-range i b .1)
+    sent i b = g .sent i (box-range i b .least) (box-range i b .most)
 
 -- ---- what the rules say
 
@@ -102,7 +102,7 @@ pub member-facts : (me members : ℕ) → is-membership me members ≡ true → 
 unfolding is-membership
 member-facts me members h =
     let m = four true (is-box me) (ltb members masks) (holds members me) h in
-    record { least = box-range me (m .1) .0; most = box-range me (m .1) .1; mask = ltb-true _ _ (m .2); held = m .3 }
+    record { least = box-range me (m .1) .least; most = box-range me (m .1) .most; mask = ltb-true _ _ (m .2); held = m .3 }
 
 -- A candidate or leader has voted for itself, in a term of at least 1.
 pub self-voted : (s : State) → Good s → 1 ≤ s .role → (s .vote ≡ s .me) × (1 ≤ s .term)

@@ -14,7 +14,7 @@ use Rattle.frames.specs.Fields.{no-entry}
 use Rattle.raft.specs.Record.{State, leader, is-other, term-at}
 use Rattle.raft.specs.Majority.{bit, majority}
 use Rattle.raft.specs.Commit.{settled, settle, matches, matching, is-matched}
-use Rattle.raft.specs.CommitLaws.{better, best, best-low, settled-quick, Ranged, ranged}
+use Rattle.raft.specs.CommitLaws.{larger-matched, largest-matched, largest-low, settled-quick, Ranged, ranged}
 use Rattle.raft.specs.Order.{ordered}
 use Rattle.raft.specs.RecordLaws.{facts-good}
 use Rattle.raft.specs.StepLaws.{good-ordered}
@@ -32,14 +32,14 @@ next-of b i = cond (is-other (b .me) (b .members) i) (b .last + 1) 0
 
 -- The commit that the quick way finds is the settled one.
 pub settles : (b : Record) (log : List Entry) → Ranged (with-entries b log) → (found t k : ℕ)
-    → found ≡ best (with-entries b log) → t ≡ term-at log found → k ≡ cond (ltb (b .commit) found && eqb t (b .term)) found (b .commit)
+    → found ≡ largest-matched (with-entries b log) → t ≡ term-at log found → k ≡ cond (ltb (b .commit) found && eqb t (b .term)) found (b .commit)
     → k ≡ settled (with-entries b log)
 settles b log r found t k e f g = rw (g, f, e, ← settled-quick (with-entries b log) r)
 
--- the best index is at most the last
-pub best-low-last : (b : Record) (log : List Entry) → Ranged (with-entries b log) → (found : ℕ) → found ≡ best (with-entries b log)
+-- the largest-matched index is at most the last
+pub largest-low-last : (b : Record) (log : List Entry) → Ranged (with-entries b log) → (found : ℕ) → found ≡ largest-matched (with-entries b log)
     → found ≤ length log
-best-low-last b log r found e = omega (arith, best-low (with-entries b log) r)
+largest-low-last b log r found e = omega (arith, largest-low (with-entries b log) r)
 
 -- ---- a log with one entry more
 

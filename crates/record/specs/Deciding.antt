@@ -77,6 +77,11 @@ pub record Sound (n : Record) (d : Decision) (offered : List Entry) (terms order
   pub decides : Decides (n .last) d offered terms orders (decided d offered terms orders)
   pub next-good : d .refusal ≡ 0 → Good (after d offered terms orders)
 
+-- The same where no entry is added.
+pub record AddsNone (n : Record) (d : Decision) (terms orders : List ℕ) : Type 0 where
+  pub sound : Sound n d [] terms orders
+  pub none : d .first ≡ d .count
+
 -- ---- changes of a struct
 
 -- A struct becomes another by a change of its record that leaves the log alone.

@@ -8,7 +8,7 @@ use lib.Dec.{eqb, ltb, leb}
 use lib.ListN.{length, getD}
 use borrow.Author.Tests.{le-leb, lt-leb}
 use Rattle.digits.specs.Tests.{and-left}
-use Rattle.frames.specs.Limits.{boxes, masks, log-limit}
+use Rattle.frames.specs.Limits.{boxes, IsBox, masks, log-limit}
 use Rattle.frames.specs.Rules.{is-box, follows, in-order}
 use Rattle.record.specs.declared.Record.{Record}
 use Rattle.raft.specs.Majority.{holds}
@@ -79,7 +79,7 @@ not-good-long b terms orders l =
     )
 
 -- a membership's own box is one of seven
-pub membership-box : (me members : ℕ) → is-membership me members ≡ true → (1 ≤ me) × (me ≤ boxes)
+pub membership-box : (me members : ℕ) → is-membership me members ≡ true → IsBox me
 unfolding is-membership
 membership-box me members h =
     box-range me (and-left (is-box me) (ltb members masks) (and-left (is-box me && ltb members masks) (holds members me) h))

@@ -1,4 +1,4 @@
--- How long a step's line and messages are, from the struct alone, and what the code writes them from. Assumes nothing.
+-- How long a step's line and messages are, from the struct alone, what the code writes them from, and the step's answer. Assumes nothing.
 use Prim.Native.Nat.{ℕ, zero, suc, _+_, _-_, _*_, _≤_, min}
 use mathlib.Core.Path.{_≡_}
 use mathlib.Core.Bool.{Bool, true, cond, _&&_}
@@ -9,10 +9,11 @@ use Rattle.frames.specs.Limits.{boxes, IsBox, entry-limit}
 use Rattle.record.specs.declared.Record.{Record}
 use Rattle.record.specs.declared.Send.{Send}
 use Rattle.record.specs.declared.Decision.{Decision}
+use Rattle.record.specs.declared.Step.{Step}
 use Rattle.raft.specs.Record.{of-box, is-other}
 use Rattle.raft.specs.Journal.{line-text}
 use Rattle.record.specs.Calls.{entries-of}
-use Rattle.record.specs.Deciding.{OtherBox}
+use Rattle.record.specs.Deciding.{OtherBox, Aimed}
 
 -- ---- the journal line
 
@@ -70,7 +71,7 @@ sent-size (Send.Append to) b = append-size b to
 sent-size (Send.VoteAnswer to reply) b = 19
 sent-size (Send.AppendAnswer to reply index) b = 23
 
--- ---- what must hold where they are written
+-- ---- what must hold where they are written: that they can be made,
 
 -- A record whose line can be written: its log is lent, and at most four entries of it stand behind those that were kept.
 pub record Tellable (next : Record) (kept : ℕ) (terms orders : List ℕ) : Type 0 where
@@ -85,11 +86,68 @@ pub record Sendable (b : Record) (terms orders : List ℕ) : Type 0 where
   pub in-orders : b .last ≤ length orders
   pub next : (i : ℕ) → IsBox i → is-other (b .me) (b .members) i ≡ true → of-box (b .lead .next) i ≤ b .last + 1
 
--- The append to one box, which is another member.
-pub record SendableTo (b : Record) (i : ℕ) (terms orders : List ℕ) : Type 0 where
+-- ---- and that there is room for them
+
+-- So many entries of the lent log from a place of it on, and room for them beside so many other bytes.
+pub record Loggable (terms orders : List ℕ) (from count beside : ℕ) (room : List ℕ) : Type 0 where
+  pub in-terms : from + count ≤ length terms
+  pub in-orders : from + count ≤ length orders
+  pub in-room : beside + 24 * count ≤ length room
+
+-- A line,
+pub record LineFits (next : Record) (kept : ℕ) (terms orders room : List ℕ) : Type 0 where
+  pub tellable : Tellable next kept terms orders
+  pub in-room : 23 + 24 * (next .last - kept) ≤ length room
+
+-- or perhaps none, where it has no bytes.
+pub record MayFit (line : ℕ) (next : Record) (kept : ℕ) (terms orders room : List ℕ) : Type 0 where
+  pub tellable : Tellable next kept terms orders
+  pub in-room : (line ≡ 0 → ⊥) → 23 + 24 * (next .last - kept) ≤ length room
+
+-- One box's share of what all get, from a place on.
+pub record ShareFits (b : Record) (size : ℕ → ℕ) (i at : ℕ) (room : List ℕ) : Type 0 where
+  pub box : IsBox i
+  pub in-room : at + share b size i ≤ length room
+
+-- The append to one box, which is another member,
+pub record AppendFits (b : Record) (i : ℕ) (terms orders room : List ℕ) : Type 0 where
   pub to : OtherBox b i
   pub sendable : Sendable b terms orders
+  pub in-room : append-size b i ≤ length room
+
+-- its append or nothing, where appends go to all others,
+pub record AppendFitsAt (b : Record) (i at : ℕ) (terms orders room : List ℕ) : Type 0 where
+  pub sendable : Sendable b terms orders
+  pub fits : ShareFits b (append-size b) i at room
+
+-- and all of them.
+pub record AppendsFit (b : Record) (terms orders room : List ℕ) : Type 0 where
+  pub sendable : Sendable b terms orders
+  pub in-room : shares b (append-size b) boxes ≤ length room
+
+-- Whatever is sent.
+pub record MessagesFit (send : Send) (b : Record) (terms orders room : List ℕ) : Type 0 where
+  pub aimed : Aimed send b
+  pub sendable : Sendable b terms orders
+  pub in-room : sent-size send b ≤ length room
+
+-- ---- a step's answer
 
 -- A line and messages of these lengths fit the journal and the room.
 unfoldable pub roomy : (line journal sent messages : ℕ) → Bool
 roomy line journal sent messages = leb line journal && leb sent messages
+
+-- A step's answer is known before anything is written. The decision's own refusal, then 5: "the head, journal line or messages are longer than the room left";
+-- with either the record stays as it was. Otherwise it is the next record, and how long line and messages are.
+unfoldable pub answered : Record → Decision → (journal messages : ℕ) → Step
+answered n d journal messages =
+    cond (eqb (d .refusal) 0)
+    (cond (roomy (line-size n d) journal (sent-size (d .send) (d .next)) messages)
+    (record { refusal = 0; state = d .next; line = line-size n d; sent = sent-size (d .send) (d .next) })
+    (record { refusal = 5; state = n; line = 0; sent = 0 }))
+    (record { refusal = d .refusal; state = n; line = 0; sent = 0 })
+
+-- A decision whose line and messages have a length.
+pub record Measurable (d : Decision) : Type 0 where
+  pub low : d .kept ≤ d .next .last
+  pub aimed : Aimed (d .send) (d .next)

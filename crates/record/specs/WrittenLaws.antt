@@ -8,7 +8,7 @@ use mathlib.Core.List.{List, [], _∷_, _++_, append-nil}
 use lib.Dec.{eqb, leb}
 use lib.ListN.{length, take, drop, length-append, take-append-drop}
 use lib.Seq.{length-take-le, take-all}
-use borrow.Author.Tests.{eqb-true, eq-eqb, ne-eqb, le-leb, leb-true, not-true, not-false}
+use borrow.Author.Tests.{eqb-true, eqb-false, eq-eqb, le-leb, leb-true}
 use Rattle.digits.specs.Tests.{and-left, and-right}
 use Rattle.digits.specs.Room.{over}
 use Rattle.digits.specs.RoomLaws.{over-nothing, length-over}
@@ -30,7 +30,7 @@ use Rattle.raft.specs.Outcome.{Outcome, done, refuse}
 use Rattle.raft.specs.LentLaws.{length-entries-of, terms-are, orders-are, drop-entries, take-entries, stored-terms, stored-orders, stored-log, terms-long, orders-long}
 use Rattle.record.specs.Calls.{entries-of, terms-of, orders-of, with-entries, state-of, record-of, Called, untouched, fit, written, run, Runs}
 use Rattle.record.specs.Deciding.{messages-of, new-of, log-after, after, decided, Decides, Sound}
-use Rattle.record.specs.Sizes.{is-silent, line-bytes, line-size, sent-size, roomy, Sendable, Tellable}
+use Rattle.record.specs.Sizes.{is-silent, line-bytes, line-size, sent-size, roomy, answered, Measurable, Sendable, Tellable, MayFit, MessagesFit}
 use Rattle.record.specs.SizeLaws.{sent-long}
 
 -- ---- lengths
@@ -83,11 +83,35 @@ line-sized n d terms orders = go (is-silent n d)
     go false = sym (line-long _ ∙ rw (length-entries-of terms orders (d .kept) (d .next .last - d .kept)))
 
 -- what fits, fits each by itself
-pub fits-both : {a b c d : ℕ} {r : Bool} → r ≡ roomy a b c d → not r ≡ false → (a ≤ b) × (c ≤ d)
+fits-both : (a b c d : ℕ) → roomy a b c d ≡ true → (a ≤ b) × (c ≤ d)
 unfolding roomy
-fits-both {a} {b} {c} {d} {r} e h =
-    let both : (leb a b && leb c d) ≡ true = sym e ∙ not-false r h in
-    (leb-true a b (and-left (leb a b) (leb c d) both), leb-true c d (and-right (leb a b) (leb c d) both))
+fits-both a b c d both = (leb-true a b (and-left (leb a b) (leb c d) both), leb-true c d (and-right (leb a b) (leb c d) both))
+
+-- An answer that refuses nothing: its decision refuses nothing either, it says how long line and messages are, and both fit.
+pub record Fitting (n : Record) (d : Decision) (journal messages : ℕ) (answer : Step) : Type 0 where
+  pub accepted : d .refusal ≡ 0
+  pub says : answer ≡ record { refusal = 0; state = d .next; line = line-size n d; sent = sent-size (d .send) (d .next) }
+  pub line : answer .line ≡ line-size n d
+  pub line-fits : line-size n d ≤ journal
+  pub sent-fits : sent-size (d .send) (d .next) ≤ messages
+
+pub fitting : (n : Record) (d : Decision) (journal messages : ℕ) {answer : Step} → answer ≡ answered n d journal messages → answer .refusal ≡ 0
+    → Fitting n d journal messages answer
+unfolding answered
+fitting n d journal messages {answer} e h =
+    go (eqb (d .refusal) 0) refl (roomy (line-size n d) journal (sent-size (d .send) (d .next)) messages) refl
+  where
+    number : {s : Step} → answer ≡ s → s .refusal ≡ 0
+    number f = sym (ap (λ (x : Step). x .refusal) f) ∙ h
+
+    go : (x : Bool) → eqb (d .refusal) 0 ≡ x → (y : Bool) → roomy (line-size n d) journal (sent-size (d .send) (d .next)) messages ≡ y
+        → Fitting n d journal messages answer
+    go true p true q =
+        let room = fits-both (line-size n d) journal (sent-size (d .send) (d .next)) messages q in
+        let says = rw (p, q) at e in
+        record { accepted = eqb-true (d .refusal) 0 p; says = says; line = ap (λ (x : Step). x .line) says; line-fits = room .0; sent-fits = room .1 }
+    go true p false q = absurd (omega (arith, number (rw (p, q) at e)))
+    go false p y q = absurd (eqb-false (d .refusal) 0 p (number (rw p at e)))
 
 -- next is at most one past the last index, whether the record sends or not
 progress-most : (sends : Bool) (last next matched : ℕ) {m : ℕ} → is-progress sends last next matched ≡ true → last ≡ m → next ≤ m + 1
@@ -176,13 +200,6 @@ module _ {n : Record} {d : Decision} {offered : List Entry} {terms orders : List
 
   -- ---- what the code leaves is what the outcome leaves
 
-  -- a refusal: nothing
-  pub refusal-left : (d .refusal ≡ 0 → ⊥) → (journal messages : List ℕ) {answer : Step}
-      → answer ≡ record { refusal = d .refusal; state = n; line = 0; sent = 0 }
-      → Runs (decided d offered terms orders) n terms orders journal messages answer terms orders journal messages
-  unfolding decided run
-  refusal-left h journal messages e = rw (e, ne-eqb (d .refusal) 0 h)
-
   module _ (done-so : d .refusal ≡ 0) where
     comes-done : decided d offered terms orders ≡ done t (messages-of (d .send) t)
     unfolding decided
@@ -195,48 +212,59 @@ module _ {n : Record} {d : Decision} {offered : List Entry} {terms orders : List
     sent-told = sent-long (d .send) (d .next) terms' orders' ∙ rw after-lent
 
     -- what does not fit: 5
-    pub short-left : (journal messages : List ℕ) {answer : Step} {line sent : ℕ} {r : Bool}
-        → answer ≡ record { refusal = 5; state = n; line = 0; sent = 0 } → line ≡ line-size n d → sent ≡ sent-size (d .send) (d .next)
-        → r ≡ roomy line (length journal) sent (length messages) → not r ≡ true
-        → Runs (decided d offered terms orders) n terms orders journal messages answer terms orders journal messages
+    short-left : (journal messages : List ℕ) → roomy (line-size n d) (length journal) (sent-size (d .send) (d .next)) (length messages) ≡ false
+        → Runs (decided d offered terms orders) n terms orders journal messages (record { refusal = 5; state = n; line = 0; sent = 0 }) terms orders journal messages
     unfolding run written fit roomy
-    short-left journal messages {answer} {line} {sent} {r} e l m f h =
-        rw (e, comes-done, ← line-told, ← sent-told, ← l, ← m, ← f, not-true r h)
+    short-left journal messages q = rw (comes-done, ← line-told, ← sent-told, q)
 
-    -- what fits: the line, the messages, and the log with the new entries
-    pub fitting-left : (journal messages : List ℕ) {answer : Step} {line sent : ℕ} {r : Bool} {journal' messages' : List ℕ}
-        → answer ≡ record { refusal = 0; state = d .next; line = line; sent = sent } → line ≡ line-size n d → sent ≡ sent-size (d .send) (d .next)
-        → r ≡ roomy line (length journal) sent (length messages) → not r ≡ false
-        → journal' ≡ over journal 0 (line-bytes n d terms' orders')
-        → messages' ≡ over messages 0 (texts (messages-of (d .send) (state-of (d .next) terms' orders')))
-        → Runs (decided d offered terms orders) n terms orders journal messages answer terms' orders' journal' messages'
-    unfolding run written fit
-    fitting-left journal messages {answer} {line} {sent} {r} {journal'} {messages'} e l m f h jo me =
-        rw (
-          e,
-          l,
-          m,
-          jo ∙ ap (over journal 0) (sym after-line),
-          me ∙ ap (λ (u : State). over messages 0 (texts (messages-of (d .send) u))) (sym after-lent),
-          comes-done,
-          le-leb (length (journaled s t)) (length journal) (omega (arith, l, line-told, fits-both f h .0)),
-          le-leb (length (texts (messages-of (d .send) t))) (length messages) (omega (arith, m, sent-told, fits-both f h .1)),
-          line-told,
-          sent-told,
-          ← after-terms,
-          ← after-orders,
-        )
-        (ap (λ (b : Record). done-call b) after-record)
-      where
-        done-call : Record → Called
-        done-call b =
-            record {
-              answer = record { refusal = 0; state = b; line = length (journaled s t); sent = length (texts (messages-of (d .send) t)) };
-              terms = terms';
-              orders = orders';
-              journal = over journal 0 (journaled s t);
-              messages = over messages 0 (texts (messages-of (d .send) t));
-            }
+  -- what is refused leaves nothing
+  pub refused-left : (journal messages : List ℕ) {answer : Step} → answer ≡ answered n d (length journal) (length messages) → (answer .refusal ≡ 0 → ⊥)
+      → Runs (decided d offered terms orders) n terms orders journal messages answer terms orders journal messages
+  unfolding answered decided run
+  refused-left journal messages {answer} e h =
+      go (eqb (d .refusal) 0) refl (roomy (line-size n d) (length journal) (sent-size (d .send) (d .next)) (length messages)) refl
+    where
+      go : (x : Bool) → eqb (d .refusal) 0 ≡ x
+          → (y : Bool) → roomy (line-size n d) (length journal) (sent-size (d .send) (d .next)) (length messages) ≡ y
+          → Runs (decided d offered terms orders) n terms orders journal messages answer terms orders journal messages
+      go true p true q = absurd (h (ap (λ (x : Step). x .refusal) (rw (p, q) at e)))
+      go true p false q = rw (rw (p, q) at e) (short-left (eqb-true (d .refusal) 0 p) journal messages q)
+      go false p y q = rw (rw p at e, p)
+
+  -- what fits: the line, the messages, and the log with the new entries
+  fitting-left : (journal messages : List ℕ) {answer : Step} {journal' messages' : List ℕ} → Fitting n d (length journal) (length messages) answer
+      → journal' ≡ over journal 0 (line-bytes n d terms' orders')
+      → messages' ≡ over messages 0 (texts (messages-of (d .send) (state-of (d .next) terms' orders')))
+      → Runs (decided d offered terms orders) n terms orders journal messages answer terms' orders' journal' messages'
+  unfolding run written fit
+  fitting-left journal messages f jo me =
+      rw (
+        f .says,
+        jo ∙ ap (over journal 0) (sym after-line),
+        me ∙ ap (λ (u : State). over messages 0 (texts (messages-of (d .send) u))) (sym after-lent),
+        comes-done (f .accepted),
+        le-leb (length (journaled s t)) (length journal) (omega (arith, line-told (f .accepted), f .line-fits)),
+        le-leb (length (texts (messages-of (d .send) t))) (length messages) (omega (arith, sent-told (f .accepted), f .sent-fits)),
+        line-told (f .accepted),
+        sent-told (f .accepted),
+        ← after-terms,
+        ← after-orders,
+      )
+      (ap (λ (b : Record). done-call b) after-record)
+    where
+      done-call : Record → Called
+      done-call b =
+          record {
+            answer = record { refusal = 0; state = b; line = length (journaled s t); sent = length (texts (messages-of (d .send) t)) };
+            terms = terms';
+            orders = orders';
+            journal = over journal 0 (journaled s t);
+            messages = over messages 0 (texts (messages-of (d .send) t));
+          }
+
+  -- its line and its messages have a length
+  pub measurable : Measurable d
+  measurable = record { low = omega (arith, k .sum); aimed = k .aimed }
 
   -- where nothing is added the lent log stays as it was
   pub log-stays : d .first ≡ d .count → (terms' ≡ terms) × (orders' ≡ orders)
@@ -269,21 +297,27 @@ module _ {n : Record} {d : Decision} {offered : List Entry} {terms orders : List
   -- ---- the same of lent arrays that hold what terms' and orders' do
 
   module _ {terms'' orders'' : List ℕ} (same-terms : terms'' ≡ terms') (same-orders : orders'' ≡ orders') where
-    pub lent-sendable : d .refusal ≡ 0 → Sendable (d .next) terms'' orders''
-    lent-sendable h = rw (same-terms, same-orders) (after-sendable h)
+    -- the line can be written,
+    pub lent-line : {journal : List ℕ} {messages : ℕ} {answer : Step} → Fitting n d (length journal) messages answer
+        → MayFit (answer .line) (d .next) (d .kept) terms'' orders'' journal
+    lent-line f =
+        record {
+          tellable = rw (same-terms, same-orders) after-tellable;
+          in-room = λ some. omega (arith, f .line-fits, f .line, line-some n d _ some (f .line) .1);
+        }
 
-    pub lent-tellable : Tellable (d .next) (d .kept) terms'' orders''
-    lent-tellable = rw (same-terms, same-orders) after-tellable
+    -- the messages too,
+    pub lent-messages : {journal : ℕ} {messages : List ℕ} {answer : Step} → Fitting n d journal (length messages) answer
+        → MessagesFit (d .send) (d .next) terms'' orders'' messages
+    lent-messages f = record { aimed = k .aimed; sendable = rw (same-terms, same-orders) (after-sendable (f .accepted)); in-room = f .sent-fits }
 
-    pub lent-left : d .refusal ≡ 0 → (journal messages : List ℕ) {answer : Step} {line sent : ℕ} {r : Bool} {journal' messages' : List ℕ}
-        → answer ≡ record { refusal = 0; state = d .next; line = line; sent = sent } → line ≡ line-size n d → sent ≡ sent-size (d .send) (d .next)
-        → r ≡ roomy line (length journal) sent (length messages) → not r ≡ false
+    -- and that is what the outcome leaves
+    pub lent-left : (journal messages : List ℕ) {answer : Step} {journal' messages' : List ℕ} → Fitting n d (length journal) (length messages) answer
         → journal' ≡ over journal 0 (line-bytes n d terms'' orders'')
         → messages' ≡ over messages 0 (texts (messages-of (d .send) (state-of (d .next) terms'' orders'')))
         → Runs (decided d offered terms orders) n terms orders journal messages answer terms'' orders'' journal' messages'
-    lent-left h journal messages e l m f b jo me =
-        rw (same-terms, same-orders)
-        (fitting-left h journal messages e l m f b (rw (same-terms, same-orders) at jo) (rw (same-terms, same-orders) at me))
+    lent-left journal messages f jo me =
+        rw (same-terms, same-orders) (fitting-left journal messages f (rw (same-terms, same-orders) at jo) (rw (same-terms, same-orders) at me))
 
   -- where the new entries were stored behind the place of the offered ones
   pub stored-at : {stored : List ℕ} (i : ℕ) (old new : List ℕ) → i + d .first ≡ d .kept → stored ≡ over old (i + d .first) new

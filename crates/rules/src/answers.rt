@@ -56,7 +56,7 @@ pub fn next_heard(reply: u8, next: u16, matched: u16) -> u16
     larger(next - 1, matched + 1)
 }
 
-// "the largest index above commit whose entry has the current term": the best index that a majority matches, with the term of its entry.
+// "the largest index above commit whose entry has the current term": the largest index that a majority matches, with the term of its entry.
 pub fn commit_at(commit: u16, own: u32, found: u16, term: u32) -> u16
     ensures { λ r. ⌜ r ≡ cond (ltb commit found && eqb term own) found commit ⌝ }
 {

@@ -7,11 +7,12 @@ ghost use Prim.Native.Nat.{ℕ, _+_, _-_, _≤_};
 ghost use lib.Dec.{ltb};
 ghost use lib.ListN.{length};
 ghost use Rattle.digits.specs.Room.{over};
-ghost use Rattle.frames.specs.Limits.{log-limit, entry-limit};
+ghost use Rattle.frames.specs.Limits.{log-limit};
 ghost use Rattle.frames.specs.Fields.{listed};
 ghost use Rattle.raft.specs.Record.{term-at};
 ghost use Rattle.raft.specs.Lent.{entries-of, terms-of, orders-of};
 ghost use Rattle.raft.specs.Append.{lacks, stop};
+ghost use Rattle.rules.specs.Required.{Joins, Storable};
 
 // The term of the entry at an index, 0 at the start.
 pub fn term_at(terms: &[u32], index: u16) -> u32
@@ -46,9 +47,7 @@ pub fn search(
     entries: [Entry; Fields::ENTRIES],
     count: usize,
 ) -> usize
-    requires { ⌜ last ≤ length (now terms) ⌝ }
-    requires { ⌜ count ≤ entry-limit ⌝ }
-    requires { ⌜ index ≤ last ⌝ }
+    requires { ⌜ Joins (now terms) last index count ⌝ }
     ensures { λ r. ⌜ ((orders : List ℕ) → r ≡ stop (entries-of (now (terms .entry)) orders 0 last) index (listed entries 0 count)) ⌝ }
     ensures { λ r. ⌜ r ≤ index + count ⌝ }
 {
@@ -84,10 +83,7 @@ pub fn store(
     first: usize,
     count: usize,
 )
-    requires { ⌜ count ≤ entry-limit ⌝ }
-    requires { ⌜ first ≤ count ⌝ }
-    requires { ⌜ index + count ≤ length (now terms) ⌝ }
-    requires { ⌜ index + count ≤ length (now orders) ⌝ }
+    requires { ⌜ Storable (now terms) (now orders) index first count ⌝ }
     ensures { λ _. ⌜ now (terms .exit) ≡ over (now (terms .entry)) (index + first) (terms-of (listed entries first (count - first))) ⌝ }
     ensures { λ _. ⌜ now (orders .exit) ≡ over (now (orders .entry)) (index + first) (orders-of (listed entries first (count - first))) ⌝ }
 {

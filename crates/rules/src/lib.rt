@@ -2,7 +2,7 @@
 mod answers;
 mod entries;
 mod mask;
-mod record;
+mod record_rules;
 mod votes;
 
 pub use answers::commit_after;
@@ -18,10 +18,10 @@ pub use mask::bit;
 pub use mask::holds;
 pub use mask::is_majority;
 pub use mask::is_other;
-pub use record::are_votes;
-pub use record::in_order;
-pub use record::is_membership;
-pub use record::is_progress;
-pub use record::is_role;
-pub use record::is_vote;
+pub use record_rules::are_votes;
+pub use record_rules::in_order;
+pub use record_rules::is_membership;
+pub use record_rules::is_progress;
+pub use record_rules::is_role;
+pub use record_rules::is_vote;
 pub use votes::is_granted;

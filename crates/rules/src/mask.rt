@@ -1,14 +1,12 @@
 // Sets of boxes as masks: box i has bit i-1.
 ghost use mathlib.Core.Path.{_≡_};
-ghost use Prim.Native.Nat.{_≤_};
-ghost use Rattle.frames.specs.Limits.{boxes};
+ghost use Rattle.frames.specs.Limits.{IsBox};
 ghost use Rattle.raft.specs.Majority.{bit, holds, majority};
 ghost use Rattle.raft.specs.Record.{is-other};
 
 // "box i has bit i-1"
 pub fn bit(i: u8) -> u8
-    requires { ⌜ 1 ≤ i ⌝ }
-    requires { ⌜ i ≤ boxes ⌝ }
+    requires { ⌜ IsBox i ⌝ }
     ensures { λ r. ⌜ r ≡ bit i ⌝ }
 {
     1 << (i - 1)
@@ -16,8 +14,7 @@ pub fn bit(i: u8) -> u8
 
 // The mask holds box i.
 pub fn holds(mask: u8, i: u8) -> bool
-    requires { ⌜ 1 ≤ i ⌝ }
-    requires { ⌜ i ≤ boxes ⌝ }
+    requires { ⌜ IsBox i ⌝ }
     ensures { λ r. ⌜ r ≡ holds mask i ⌝ }
 {
     (mask >> (i - 1)) % 2 == 1
@@ -25,8 +22,7 @@ pub fn holds(mask: u8, i: u8) -> bool
 
 // Another member.
 pub fn is_other(me: u8, members: u8, i: u8) -> bool
-    requires { ⌜ 1 ≤ i ⌝ }
-    requires { ⌜ i ≤ boxes ⌝ }
+    requires { ⌜ IsBox i ⌝ }
     ensures { λ r. ⌜ r ≡ is-other me members i ⌝ }
 {
     if i == me {

@@ -1,19 +1,18 @@
 // "Append to j", and an append to each other member in rising box number.
-use crate::journal::put_logged;
+use crate::journal_lines::put_logged;
 use frames::Fields;
 use record::Record;
 use rules::is_other;
 use rules::term_at;
 ghost use mathlib.Core.Path.{_≡_};
-ghost use Prim.Native.Nat.{_+_, _-_, _*_, _≤_};
-ghost use lib.ListN.{length};
+ghost use Prim.Native.Nat.{_+_, _≤_};
 ghost use Rattle.digits.specs.Room.{over};
 ghost use Rattle.frames.specs.Limits.{IsBox, boxes, entry-limit, longest-message};
 ghost use Rattle.frames.specs.Message.{append, text};
 ghost use Rattle.raft.specs.Sends.{append-to, texts, appends};
 ghost use Rattle.raft.specs.Lent.{entries-of};
 ghost use Rattle.record.specs.Calls.{state-of};
-ghost use Rattle.record.specs.Sizes.{share, shares, previous, entry-count, append-size, Sendable, SendableTo};
+ghost use Rattle.record.specs.Sizes.{share, shares, previous, entry-count, append-size, Loggable, AppendFits, AppendFitsAt, AppendsFit};
 ghost use Rattle.record.specs.SizeLaws.{only};
 
 // "Previous index = next - 1"
@@ -95,9 +94,7 @@ fn put_append_from(
     terms: &[u32],
     orders: &[u64],
 )
-    requires { ⌜ index + count ≤ length (now terms) ⌝ }
-    requires { ⌜ index + count ≤ length (now orders) ⌝ }
-    requires { ⌜ 35 + 24 * count ≤ length (now room) ⌝ }
+    requires { ⌜ Loggable (now terms) (now orders) index count 35 (now room) ⌝ }
     ensures { λ _. ⌜ now (room .exit) ≡ over (now (room .entry)) 0
         (text (append from to term index prior commit (entries-of (now (terms .entry)) (now (orders .entry)) index count))) ⌝ }
 {
@@ -108,8 +105,7 @@ fn put_append_from(
 
 // "Append to j. Previous index = next - 1 with its term (0, 0 at the start), up to 4 entries from next on, the leader's commit."
 pub fn put_append(room: &mut [u8], n: Record, terms: &[u32], orders: &[u64], i: u8)
-    requires { ⌜ SendableTo n i (now terms) (now orders) ⌝ }
-    requires { ⌜ append-size n i ≤ length (now room) ⌝ }
+    requires { ⌜ AppendFits n i (now terms) (now orders) (now room) ⌝ }
     ensures { λ _. ⌜ now (room .exit) ≡ over (now (room .entry)) 0
         (text (append-to (state-of n (now (terms .entry)) (now (orders .entry))) i)) ⌝ }
 {
@@ -137,9 +133,7 @@ fn put_append_at(
     orders: &[u64],
     i: u8,
 ) -> usize
-    requires { ⌜ IsBox i ⌝ }
-    requires { ⌜ Sendable n (now terms) (now orders) ⌝ }
-    requires { ⌜ at + share n (append-size n) i ≤ length (now room) ⌝ }
+    requires { ⌜ AppendFitsAt n i at (now terms) (now orders) (now room) ⌝ }
     ensures { λ r. ⌜ r ≡ at + share n (append-size n) i ⌝ }
     ensures { λ _. ⌜ now (room .exit) ≡ over (now (room .entry)) at (texts (only
         (state-of n (now (terms .entry)) (now (orders .entry))) (append-to (state-of n (now (terms .entry)) (now (orders .entry)))) i)) ⌝ }
@@ -153,8 +147,7 @@ fn put_append_at(
 
 // An append to each other member.
 pub fn put_appends(room: &mut [u8], n: Record, terms: &[u32], orders: &[u64])
-    requires { ⌜ Sendable n (now terms) (now orders) ⌝ }
-    requires { ⌜ shares n (append-size n) boxes ≤ length (now room) ⌝ }
+    requires { ⌜ AppendsFit n (now terms) (now orders) (now room) ⌝ }
     ensures { λ _. ⌜ now (room .exit) ≡ over (now (room .entry)) 0
         (texts (appends (state-of n (now (terms .entry)) (now (orders .entry))))) ⌝ }
 {

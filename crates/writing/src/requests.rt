@@ -10,7 +10,7 @@ ghost use Rattle.digits.specs.Room.{over};
 ghost use Rattle.frames.specs.Limits.{boxes, IsBox};
 ghost use Rattle.raft.specs.Sends.{texts};
 ghost use Rattle.record.specs.Calls.{with-entries};
-ghost use Rattle.record.specs.Sizes.{share, shares, request-size};
+ghost use Rattle.record.specs.Sizes.{share, shares, request-size, ShareFits};
 ghost use Rattle.record.specs.SizeLaws.{asks, only, others-to};
 
 // What box i gets: a request of 29 bytes, or nothing.
@@ -40,8 +40,7 @@ pub fn requests_size(n: Record) -> usize
 
 // Box i's request, from a place on, or nothing; the answer is the place behind it.
 fn put_request(room: &mut [u8], at: usize, n: Record, last_term: u32, i: u8) -> usize
-    requires { ⌜ IsBox i ⌝ }
-    requires { ⌜ at + share n request-size i ≤ length (now room) ⌝ }
+    requires { ⌜ ShareFits n request-size i at (now room) ⌝ }
     ensures { λ r. ⌜ r ≡ at + share n request-size i ⌝ }
     ensures { λ _. ⌜ now (room .exit) ≡ over (now (room .entry)) at (texts (only (with-entries n []) (asks n «last_term») i)) ⌝ }
 {

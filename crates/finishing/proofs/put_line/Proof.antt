@@ -15,7 +15,7 @@ put-line-requires : tie.Need-put-line-requires
 put-line-requires c κs =
     let at-if1 = c .before in
     let entered = at-if1 .before .before .before .before in
-    (entered .pre .0, entered .pre .1 (at-if1 .if1 .left))
+    record { tellable = entered .pre .tellable; in-room = entered .pre .in-room (at-if1 .if1 .left) }
 
 same-length : tie.Need-same-length
 same-length c = search needs

@@ -18,14 +18,14 @@ enum-told-2 c = search needs
 term-at-requires : tie.Need-term-at-requires
 term-at-requires c κs =
     let entered = c .before .before .before .before .before .before in
-    entered .pre .1 .0 .in-terms
+    entered .pre .sendable .in-terms
 
 put-requests-requires : tie.Need-put-requests-requires
 unfolding sent-size
 put-requests-requires c κs =
     let at-enum-told2 = c .before .before in
     let entered = at-enum-told2 .before .before .before .before .before in
-    rw (at-enum-told2 .enum-told2 .given .1) at (entered .pre .1 .1)
+    rw (at-enum-told2 .enum-told2 .given .1) at (entered .pre .in-room)
 
 enum-told-3 : tie.Need-enum-told-3
 enum-told-3 c = search needs
@@ -35,7 +35,7 @@ unfolding sent-size
 put-appends-requires c κs =
     let at-enum-told3 = c .before in
     let entered = at-enum-told3 .before .before .before .before .before in
-    (entered .pre .1 .0, rw (at-enum-told3 .enum-told3 .given .1) at (entered .pre .1 .1))
+    record { sendable = entered .pre .sendable; in-room = rw (at-enum-told3 .enum-told3 .given .1) at (entered .pre .in-room) }
 
 enum-known-send : tie.Need-enum-known-send
 enum-known-send c = search needs
@@ -45,7 +45,11 @@ unfolding sent-size Aimed
 put-append-requires c κs =
     let at-send = c .before .before in
     let entered = at-send .before .before .before .before .before in
-    (record { to = rw (at-send .send .given .1) at (entered .pre .0); sendable = entered .pre .1 .0 }, rw (at-send .send .given .1) at (entered .pre .1 .1))
+    record {
+      to = rw (at-send .send .given .1) at (entered .pre .aimed);
+      sendable = entered .pre .sendable;
+      in-room = rw (at-send .send .given .1) at (entered .pre .in-room);
+    }
 
 enum-known-send-2 : tie.Need-enum-known-send-2
 enum-known-send-2 c = search needs
@@ -55,7 +59,7 @@ unfolding sent-size
 put-vote-answer-requires c κs =
     let at-send2 = c .before .before in
     let entered = at-send2 .before .before .before .before .before in
-    rw (at-send2 .send2 .given .1) at (entered .pre .1 .1)
+    rw (at-send2 .send2 .given .1) at (entered .pre .in-room)
 
 enum-known-send-3 : tie.Need-enum-known-send-3
 enum-known-send-3 c = search needs
@@ -65,7 +69,7 @@ unfolding sent-size
 put-append-answer-requires c κs =
     let at-send3 = c .before .before in
     let entered = at-send3 .before .before .before .before .before in
-    rw (at-send3 .send3 .given .1) at (entered .pre .1 .1)
+    rw (at-send3 .send3 .given .1) at (entered .pre .in-room)
 
 returns : tie.Need-returns
 unfolding messages-of

@@ -30,8 +30,8 @@ returns-2 c =
     let term-at = c .term-at in
     λ orders o.
     let log = entries-of (args .terms .now) orders 0 (args .n .last) in
-    term-at .ensures orders (args .n .last) (omega (arith, if1 .left, pre))
-    ∙ sym (term-front log _ _ (omega (arith, length-entries-of (args .terms .now) orders 0 (args .n .last), if1 .left, pre)))
+    term-at .ensures orders (args .n .last) (omega (arith, if1 .left, pre .inside))
+    ∙ sym (term-front log _ _ (omega (arith, length-entries-of (args .terms .now) orders 0 (args .n .last), if1 .left, pre .inside)))
 
 pub term-after-spec : {M : Type 1} → statement M
 term-after-spec = tie.close (tie.spec add-if1 returns term-at-requires returns-2)

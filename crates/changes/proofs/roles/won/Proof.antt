@@ -15,13 +15,17 @@ settled-requires : tie.Need-settled-requires
 settled-requires c κs =
     let entered = c .before .before .before in
     let leads = becomes-lent (c .leading .ensures) (entered .args .terms .now) (entered .args .orders .now) in
-    (omega (arith, c .leading .ensures .last, entered .pre .1 .0), rw leads (ranged _ (facts-good _ (entered .pre .1 .1))))
+    record {
+      in-terms = omega (arith, c .leading .ensures .last, entered .pre .in-terms);
+      matched = rw leads (ranged _ (facts-good _ (entered .pre .leads)));
+    }
 
 returns : tie.Need-returns
 returns c =
     let at-leading = c .before in
     let entered = at-leading .before .before .before in
-    (c .settled .ensures .0 ∙ rw (becomes-lent (at-leading .leading .ensures) (entered .args .terms .now) (entered .args .orders .now)), c .settled .ensures .1 ∙ at-leading .leading .ensures .last)
+    let leads = becomes-lent (at-leading .leading .ensures) (entered .args .terms .now) (entered .args .orders .now) in
+    (c .settled .ensures .0 ∙ rw leads, c .settled .ensures .1 ∙ at-leading .leading .ensures .last)
 
 pub won-spec : {M : Type 1} → statement M
 won-spec = tie.close (tie.spec leading-requires settled-requires returns)

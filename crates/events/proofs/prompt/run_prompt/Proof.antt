@@ -17,7 +17,10 @@ unfolding step
 finish-requires c κs =
     let at-decide = c .before .before in
     let entered = at-decide .before .before .before .before .before in
-    (sound is-prompted (entered .pre) (at-decide .decide .ensures .0 (entered .args .terms .now) (entered .args .orders .now)), at-decide .decide .ensures .1)
+    record {
+      sound = sound is-prompted (entered .pre) (at-decide .decide .ensures .0 (entered .args .terms .now) (entered .args .orders .now));
+      none = at-decide .decide .ensures .1;
+    }
 
 same-length : tie.Need-same-length
 same-length c = search needs

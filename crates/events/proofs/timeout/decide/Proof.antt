@@ -46,12 +46,13 @@ standing-requires : tie.Need-standing-requires
 standing-requires c κs =
     let entered = c .before .before .before .before .before .before in
     let me = ready-box (entered .pre) in
-    (record { least = me .least; most = me .most }, omega (arith, c .if2 .left))
+    record { me = record { least = me .least; most = me .most }; early = omega (arith, c .if2 .left) }
 
 bit-requires : tie.Need-bit-requires
 bit-requires c κs =
     let entered = c .before .before .before .before .before .before .before in
-    let me = ready-box (entered .pre) in (me .least, me .most)
+    let me = ready-box (entered .pre) in
+    record { least = me .least; most = me .most }
 
 is-majority-requires : tie.Need-is-majority-requires
 is-majority-requires c κs = search needs
@@ -61,10 +62,12 @@ won-requires c κs =
     let at-standing = c .before .before .before in
     let entered = at-standing .before .before .before .before .before .before .before in
     let stands = becomes-lent (at-standing .standing .ensures) (entered .args .terms .now) (entered .args .orders .now) in
-    let last = ready-last (entered .pre) in (
-      omega (arith, at-standing .standing .ensures .last, last),
-      (omega (arith, at-standing .standing .ensures .last, last, entered .pre .terms-long), rw stands (good-won _ (ready-good (entered .pre)))),
-    )
+    let last = ready-last (entered .pre) in
+    record {
+      last = omega (arith, at-standing .standing .ensures .last, last);
+      in-terms = omega (arith, at-standing .standing .ensures .last, last, entered .pre .terms-long);
+      leads = rw stands (good-won _ (ready-good (entered .pre)));
+    }
 
 step-requires-2 : tie.Need-step-requires-2
 step-requires-2 c κs = search needs

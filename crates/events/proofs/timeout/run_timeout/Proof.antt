@@ -14,7 +14,7 @@ unfolding step
 finish-requires c κs =
     let at-decide = c .before .before in
     let entered = at-decide .before .before .before .before .before in
-    (sound times-out (entered .pre) (at-decide .decide .ensures .0), at-decide .decide .ensures .1)
+    record { sound = sound times-out (entered .pre) (at-decide .decide .ensures .0); none = at-decide .decide .ensures .1 }
 
 same-length : tie.Need-same-length
 same-length c = search needs

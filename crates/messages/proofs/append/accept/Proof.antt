@@ -13,7 +13,7 @@ use Rattle.messages.proofs.append.accept.Tie as tie
 add-end : tie.Need-add-end
 add-end c =
     let entered = c .before in
-    omega (arith, entered .pre .0 .room)
+    omega (arith, entered .pre .offered .room)
 
 cast-search : tie.Need-cast-search
 cast-search c = search needs
@@ -21,7 +21,8 @@ cast-search c = search needs
 search-requires : tie.Need-search-requires
 search-requires c κs =
     let entered = c .before .before in
-    (omega (arith, entered .pre .0 .lent .long, entered .pre .0 .lent .last), (entered .pre .0 .few, entered .pre .1))
+    let lent = entered .pre .offered .lent in
+    record { in-terms = omega (arith, lent .long, lent .last); few = entered .pre .offered .few; joint = entered .pre .joint }
 
 following-requires : tie.Need-following-requires
 following-requires c κs = search needs
@@ -46,7 +47,7 @@ returns c =
     let t = entered .args .t in
     let terms = entered .args .terms .now in
     λ orders. rw (c .step .ensures)
-    (changed-decides t _ (entered .args .entries) terms orders (Send.AppendAnswer (entered .args .from) 1 _) (at-following .following .ensures .last) (entered .pre .0 .lent .last) tt
+    (changed-decides t _ (entered .args .entries) terms orders (Send.AppendAnswer (entered .args .from) 1 _) (at-following .following .ensures .last) (entered .pre .offered .lent .last) tt
     (accept-held t terms orders (entered .args .from) (entered .args .index) (entered .args .commit) (entered .args .entries) (entered .args .count) _ (at-search .search .ensures .0 orders)
     _ (at-following .following .ensures) _ (at-commit-after .commit-after .ensures) (at-if1 .if1 .taken)))
 
@@ -54,7 +55,7 @@ cuts-committed-requires : tie.Need-cuts-committed-requires
 cuts-committed-requires c κs =
     let at-search = c .before .before .before in
     let entered = at-search .before .before .before in
-    omega (arith, at-search .search .ensures .1, entered .pre .0 .room)
+    omega (arith, at-search .search .ensures .1, entered .pre .offered .room)
 
 refuse-requires : tie.Need-refuse-requires
 refuse-requires c κs = search needs
@@ -71,7 +72,7 @@ returns-2 c =
     let t = entered .args .t in
     let terms = entered .args .terms .now in
     λ orders. rw (c .refuse .ensures)
-    (refuse-decides t (entered .args .entries) terms orders 7 (entered .pre .0 .lent .last) (omega arith)
+    (refuse-decides t (entered .args .entries) terms orders 7 (entered .pre .offered .lent .last) (omega arith)
     (accept-alarm t terms orders (entered .args .from) (entered .args .index) (entered .args .commit) (entered .args .entries) (entered .args .count) _ (at-search .search .ensures .0 orders)
     _ (at-following .following .ensures) _ (at-commit-after .commit-after .ensures) (at-if1 .if1 .left) (ltb-true _ _ (sym (at-cuts-committed .cuts-committed .ensures) ∙ at-if2 .if2 .taken))))
 
@@ -102,7 +103,7 @@ returns-3 c =
     let t = entered .args .t in
     let terms = entered .args .terms .now in
     λ orders. accept-adds t terms orders (entered .args .from) (entered .args .index) (entered .args .commit) (entered .args .entries) (entered .args .count) _ (at-search .search .ensures .0 orders)
-    _ (at-following .following .ensures) _ (at-commit-after .commit-after .ensures) (at-if1 .if1 .left) (entered .pre .1) _ _ refl (entered .pre .0)
+    _ (at-following .following .ensures) _ (at-commit-after .commit-after .ensures) (at-if1 .if1 .left) (entered .pre .joint) _ _ refl (entered .pre .offered)
     (ltb-false _ _ (sym (at-cuts-committed .cuts-committed .ensures) ∙ c .if2 .left)) refl (λ log. refl)
 
 pub accept-spec : {M : Type 1} → statement M

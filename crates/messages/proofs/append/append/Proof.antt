@@ -59,7 +59,7 @@ accept-requires c κs =
     let t = entered .args .t in
     let terms = entered .args .terms .now in
     let there = lacks-not _ (entered .args .index) (entered .args .prior) (sym (at-lacks .lacks .ensures terms) ∙ c .if2 .left) .0 in
-    (entered .pre, omega (arith, there, length-entries-of terms terms 0 (t .last)))
+    record { offered = entered .pre; joint = omega (arith, there, length-entries-of terms terms 0 (t .last)) }
 
 returns-3 : tie.Need-returns-3
 returns-3 c =

@@ -47,27 +47,30 @@ heard-requires : tie.Need-heard-requires
 heard-requires c κs =
     let at-if1 = c .before .before in
     let entered = at-if1 .before .before .before .before in
-    let known = not-past (entered .args .t) (entered .args .reply) (entered .args .index) (c .if2 .left) in (
-      entered .pre .sender .box,
-      (
-        heard-match (entered .args .t) (entered .args .from) (entered .args .reply) (entered .args .index) (entered .args .terms .now) (entered .args .orders .now)
-            (entered .pre) (at-if1 .if1 .left) known,
-        heard-next (entered .args .t) (entered .args .from) (entered .args .reply) (entered .args .index) (entered .args .terms .now) (entered .args .orders .now)
-            (entered .pre) (at-if1 .if1 .left) known,
-      ),
-    )
+    let known = not-past (entered .args .t) (entered .args .reply) (entered .args .index) (c .if2 .left) in
+    record {
+      box = entered .pre .sender .box;
+      match-low =
+          heard-match (entered .args .t) (entered .args .from) (entered .args .reply) (entered .args .index) (entered .args .terms .now) (entered .args .orders .now)
+          (entered .pre) (at-if1 .if1 .left) known;
+      next-least =
+          heard-next (entered .args .t) (entered .args .from) (entered .args .reply) (entered .args .index) (entered .args .terms .now) (entered .args .orders .now)
+          (entered .pre) (at-if1 .if1 .left) known;
+    }
 
 settled-requires : tie.Need-settled-requires
 settled-requires c κs =
     let at-if2 = c .before in
     let at-if1 = at-if2 .before .before in
     let entered = at-if1 .before .before .before .before in
-    let known = not-past (entered .args .t) (entered .args .reply) (entered .args .index) (at-if2 .if2 .left) in (
-      omega (arith, c .heard .ensures .last, ready-last (entered .pre .ready), entered .pre .ready .terms-long),
-      rw (becomes-lent (c .heard .ensures) (entered .args .terms .now) (entered .args .orders .now))
+    let known = not-past (entered .args .t) (entered .args .reply) (entered .args .index) (at-if2 .if2 .left) in
+    record {
+      in-terms = omega (arith, c .heard .ensures .last, ready-last (entered .pre .ready), entered .pre .ready .terms-long);
+      matched =
+          rw (becomes-lent (c .heard .ensures) (entered .args .terms .now) (entered .args .orders .now))
           (heard-ranged (entered .args .t) (entered .args .from) (entered .args .reply) (entered .args .index) (entered .args .terms .now) (entered .args .orders .now)
-          (entered .pre) (at-if1 .if1 .left) known),
-    )
+          (entered .pre) (at-if1 .if1 .left) known);
+    }
 
 sends-again-requires : tie.Need-sends-again-requires
 sends-again-requires c κs =

@@ -4,9 +4,7 @@ use Rattle.messages.proofs.deliver.is_for.Statement.{statement}
 use Rattle.messages.proofs.deliver.is_for.Tie as tie
 
 is-other-requires : tie.Need-is-other-requires
-is-other-requires c κs =
-    let entered = c .before in
-    (entered .pre .least, entered .pre .most)
+is-other-requires c κs = c .before .pre
 
 returns : tie.Need-returns
 unfolding is-for

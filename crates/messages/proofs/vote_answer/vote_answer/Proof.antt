@@ -28,8 +28,7 @@ returns c =
 
 bit-requires : tie.Need-bit-requires
 bit-requires c κs =
-    let entered = c .before .before .before .before in
-    (entered .pre .sender .box .least, entered .pre .sender .box .most)
+    let entered = c .before .before .before .before in entered .pre .sender .box
 
 is-majority-requires : tie.Need-is-majority-requires
 is-majority-requires c κs = search needs
@@ -56,14 +55,14 @@ unfolding adding counts
 won-requires c κs =
     let at-bit = c .before .before .before in
     let at-if1 = at-bit .before in
-    let entered = at-if1 .before .before .before .before in (
-      ready-last (entered .pre .ready),
-      (
-        omega (arith, ready-last (entered .pre .ready), entered .pre .ready .terms-long),
-        rw (at-bit .bit .ensures) (wins-good (entered .args .t) (entered .args .from) (entered .args .reply) (entered .args .terms .now) (entered .args .orders .now)
-            (entered .pre) (not-false _ (at-if1 .if1 .left))),
-      ),
-    )
+    let entered = at-if1 .before .before .before .before in
+    record {
+      last = ready-last (entered .pre .ready);
+      in-terms = omega (arith, ready-last (entered .pre .ready), entered .pre .ready .terms-long);
+      leads =
+          rw (at-bit .bit .ensures) (wins-good (entered .args .t) (entered .args .from) (entered .args .reply) (entered .args .terms .now) (entered .args .orders .now)
+          (entered .pre) (not-false _ (at-if1 .if1 .left)));
+    }
 
 step-requires-3 : tie.Need-step-requires-3
 step-requires-3 c κs = search needs

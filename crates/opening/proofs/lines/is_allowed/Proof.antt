@@ -26,7 +26,7 @@ term-at-requires c κs =
     let at-rules = at-if1 .before in
     let entered = at-rules .before .before in
     let kept = numbers (entered .args .n) (entered .args .l) (sym (at-rules .allows-numbers .ensures) ∙ not-false _ (at-if1 .if1 .left)) in
-    omega (arith, kept .room, entered .pre)
+    omega (arith, kept .room, entered .pre .terms-long)
 
 in-order-requires : tie.Need-in-order-requires
 in-order-requires c κs = search needs

@@ -15,7 +15,7 @@ entries-requires : tie.Need-entries-requires
 unfolding count-in
 entries-requires c κs =
     let entered = c .before .before in
-    (omega (arith, c .get-u8 .ensures, entered .pre .few), omega (arith, shaped-run (entered .args .s .now) (entered .pre .shaped), c .get-u8 .ensures))
+    record { early = omega arith; inside = omega (arith, shaped-run (entered .args .s .now) (entered .pre .shaped), c .get-u8 .ensures) }
 
 get-u8-requires-2 : tie.Need-get-u8-requires-2
 get-u8-requires-2 c κs =

@@ -10,18 +10,18 @@ use Rattle.text.specs.Copying.{copy-none, copy-next}
 use Rattle.opening.proofs.whole.hand_over.Statement.{statement}
 use Rattle.opening.proofs.whole.hand_over.Tie as tie
 
-record Copied (terms₀ orders₀ made taken : List ℕ) (last : ℕ) (terms orders : List ℕ) (i : ℕ) : Type 0 where
+record Copied (terms₀ orders₀ terms-made orders-made : List ℕ) (last : ℕ) (terms orders : List ℕ) (i : ℕ) : Type 0 where
   within : i ≤ last
   terms-long : length terms ≡ length terms₀
   orders-long : length orders ≡ length orders₀
-  terms-so-far : terms ≡ over terms₀ 0 (take i made)
-  orders-so-far : orders ≡ over orders₀ 0 (take i taken)
+  terms-so-far : terms ≡ over terms₀ 0 (take i terms-made)
+  orders-so-far : orders ≡ over orders₀ 0 (take i orders-made)
 
 abbrev Inv-loop : tie.InvT-loop
-Inv-loop terms₀ orders₀ made taken last i₀ terms orders i = Copied terms₀ orders₀ made taken last terms orders i
+Inv-loop terms₀ orders₀ terms-made orders-made last i₀ terms orders i = Copied terms₀ orders₀ terms-made orders-made last terms orders i
 
 abbrev μ-loop : tie.MeasureT-loop
-μ-loop terms₀ orders₀ made taken last i₀ terms orders i = last - i
+μ-loop terms₀ orders₀ terms-made orders-made last i₀ terms orders i = last - i
 
 loop-holds : tie.Need-loop-holds Inv-loop μ-loop
 loop-holds c =
@@ -31,8 +31,8 @@ loop-holds c =
       within = omega arith;
       terms-long = refl;
       orders-long = refl;
-      terms-so-far = copy-none terms (c .args .made .now);
-      orders-so-far = copy-none orders (c .args .taken .now);
+      terms-so-far = copy-none terms (c .args .terms-made .now);
+      orders-so-far = copy-none orders (c .args .orders-made .now);
     }
 
 mul-terms : tie.Need-mul-terms Inv-loop μ-loop
@@ -70,8 +70,8 @@ loop-again c =
     let at-loop = c .before .before .before in
     let entered = at-loop .before in
     let i = at-loop .loop .i in
-    let terms = copy-next (entered .args .terms .now) (entered .args .made .now) i (omega arith) (omega arith) (at-loop .loop .inv .terms-so-far) in
-    let orders = copy-next (entered .args .orders .now) (entered .args .taken .now) i (omega arith) (omega arith) (at-loop .loop .inv .orders-so-far) in
+    let terms = copy-next (entered .args .terms .now) (entered .args .terms-made .now) i (omega arith) (omega arith) (at-loop .loop .inv .terms-so-far) in
+    let orders = copy-next (entered .args .orders .now) (entered .args .orders-made .now) i (omega arith) (omega arith) (at-loop .loop .inv .orders-so-far) in
     record { within = omega arith; terms-long = search needs; orders-long = search needs; terms-so-far = terms; orders-so-far = orders }
 
 same-length : tie.Need-same-length Inv-loop μ-loop
@@ -85,8 +85,8 @@ returns c =
     let at-loop = c .before in
     let entered = at-loop .before in
     let all : at-loop .loop .i ≡ entered .args .last = omega arith in
-    let terms = at-loop .loop .inv .terms-so-far ∙ ap (λ k. over (entered .args .terms .now) 0 (take k (entered .args .made .now))) all in
-    let orders = at-loop .loop .inv .orders-so-far ∙ ap (λ k. over (entered .args .orders .now) 0 (take k (entered .args .taken .now))) all in
+    let terms = at-loop .loop .inv .terms-so-far ∙ ap (λ k. over (entered .args .terms .now) 0 (take k (entered .args .terms-made .now))) all in
+    let orders = at-loop .loop .inv .orders-so-far ∙ ap (λ k. over (entered .args .orders .now) 0 (take k (entered .args .orders-made .now))) all in
     (terms, orders)
 
 pub hand-over-spec : {M : Type 1} → statement M

@@ -57,20 +57,20 @@ replay-all-requires c κs =
 
 returns-2 : tie.Need-returns-2
 returns-2 c =
-    let at-made = c .before .before .before .before in
-    let at-fresh = at-made .before .before .before in
+    let at-terms-made = c .before .before .before .before in
+    let at-fresh = at-terms-made .before .before .before in
     let at-if1 = at-fresh .before in
     let at-head-mask = at-if1 .before in
     let at-line-end = at-head-mask .before .before in
     let entered = at-line-end .before .before in
     let me = entered .args .me in
     let bytes = entered .args .bytes .now in
-    let made = at-made .replay-all .last .1 .1 .1 .0 in
-    let taken = at-made .replay-all .last .1 .1 .1 .1 .0 in
+    let terms-made = at-terms-made .replay-all .last .1 .1 .1 .0 in
+    let orders-made = at-terms-made .replay-all .last .1 .1 .1 .1 .0 in
     let end = at-line-end .line-end .ensures in
     let mask = at-head-mask .head-mask .ensures in
-    let finds = open-finds me bytes end mask (at-if1 .if1 .left) (at-fresh .fresh .ensures) _ _ made taken _ (at-made .replay-all .ensures) in
-    opens-broken me bytes (entered .args .terms .now) (entered .args .orders .now) made taken _ finds (c .if2 .taken)
+    let finds = open-finds me bytes end mask (at-if1 .if1 .left) (at-fresh .fresh .ensures) _ _ terms-made orders-made _ (at-terms-made .replay-all .ensures) in
+    opens-broken me bytes (entered .args .terms .now) (entered .args .orders .now) terms-made orders-made _ finds (c .if2 .taken)
 
 slice-aggregate-hand-over : tie.Need-slice-aggregate-hand-over
 slice-aggregate-hand-over c = search needs
@@ -86,48 +86,53 @@ hand-over-requires c κs =
     let at-orders = c .before .before .before in
     let at-terms = at-orders .before in
     let at-if2 = at-terms .before .before in
-    let at-taken2 = at-if2 .before .before in
-    let at-made2 = at-taken2 .before in
-    let at-made = at-made2 .before in
-    let at-fresh = at-made .before .before .before in
+    let at-orders-made2 = at-if2 .before .before in
+    let at-terms-made2 = at-orders-made2 .before in
+    let at-terms-made = at-terms-made2 .before in
+    let at-fresh = at-terms-made .before .before .before in
     let at-if1 = at-fresh .before in
     let at-head-mask = at-if1 .before in
     let at-line-end = at-head-mask .before .before in
     let entered = at-line-end .before .before in
     let me = entered .args .me in
     let bytes = entered .args .bytes .now in
-    let made = at-made .replay-all .last .1 .1 .1 .0 in
-    let taken = at-made .replay-all .last .1 .1 .1 .1 .0 in
+    let terms-made = at-terms-made .replay-all .last .1 .1 .1 .0 in
+    let orders-made = at-terms-made .replay-all .last .1 .1 .1 .1 .0 in
     let end = at-line-end .line-end .ensures in
     let mask = at-head-mask .head-mask .ensures in
-    let finds = open-finds me bytes end mask (at-if1 .if1 .left) (at-fresh .fresh .ensures) _ _ made taken _ (at-made .replay-all .ensures) in
-    let fits = found-room me bytes (entered .args .terms .now) (entered .args .orders .now) made taken _ finds (at-if2 .if2 .left) in
+    let finds = open-finds me bytes end mask (at-if1 .if1 .left) (at-fresh .fresh .ensures) _ _ terms-made orders-made _ (at-terms-made .replay-all .ensures) in
+    let fits = found-room me bytes (entered .args .terms .now) (entered .args .orders .now) terms-made orders-made _ finds (at-if2 .if2 .left) in
     let terms-long = at-terms .hand-over-arg .given .0 .1 in
     let orders-long = at-orders .hand-over-arg2 .given .0 .1 in
-    let made-long = at-made2 .made2 .given in
-    let taken-long = at-taken2 .taken2 .given in
-    (omega (arith, fits, terms-long), (omega (arith, fits, orders-long), (omega (arith, fits, made-long), omega (arith, fits, taken-long))))
+    let terms-made-long = at-terms-made2 .terms-made2 .given in
+    let orders-made-long = at-orders-made2 .orders-made2 .given in
+    record {
+      in-terms = omega (arith, fits, terms-long);
+      in-orders = omega (arith, fits, orders-long);
+      in-terms-made = omega (arith, fits, terms-made-long);
+      in-orders-made = omega (arith, fits, orders-made-long);
+    }
 
 returns-3 : tie.Need-returns-3
 returns-3 c =
     let at-if2 = c .before .before .before .before .before .before .before in
-    let at-taken2 = at-if2 .before .before in
-    let at-made2 = at-taken2 .before in
-    let at-made = at-made2 .before in
-    let at-fresh = at-made .before .before .before in
+    let at-orders-made2 = at-if2 .before .before in
+    let at-terms-made2 = at-orders-made2 .before in
+    let at-terms-made = at-terms-made2 .before in
+    let at-fresh = at-terms-made .before .before .before in
     let at-if1 = at-fresh .before in
     let at-head-mask = at-if1 .before in
     let at-line-end = at-head-mask .before .before in
     let entered = at-line-end .before .before in
     let me = entered .args .me in
     let bytes = entered .args .bytes .now in
-    let made = at-made .replay-all .last .1 .1 .1 .0 in
-    let taken = at-made .replay-all .last .1 .1 .1 .1 .0 in
+    let terms-made = at-terms-made .replay-all .last .1 .1 .1 .0 in
+    let orders-made = at-terms-made .replay-all .last .1 .1 .1 .1 .0 in
     let end = at-line-end .line-end .ensures in
     let mask = at-head-mask .head-mask .ensures in
-    let finds = open-finds me bytes end mask (at-if1 .if1 .left) (at-fresh .fresh .ensures) _ _ made taken _ (at-made .replay-all .ensures) in
-    let found = opens-found me bytes (entered .args .terms .now) (entered .args .orders .now) made taken _ finds (at-if2 .if2 .left) in
-    found (at-made2 .made2 .given) (at-taken2 .taken2 .given) (c .hand-over .ensures .0) (c .hand-over .ensures .1)
+    let finds = open-finds me bytes end mask (at-if1 .if1 .left) (at-fresh .fresh .ensures) _ _ terms-made orders-made _ (at-terms-made .replay-all .ensures) in
+    let found = opens-found me bytes (entered .args .terms .now) (entered .args .orders .now) terms-made orders-made _ finds (at-if2 .if2 .left) in
+    found (at-terms-made2 .terms-made2 .given) (at-orders-made2 .orders-made2 .given) (c .hand-over .ensures .0) (c .hand-over .ensures .1)
 
 pub open-spec : {M : Type 1} → statement M
 open-spec =

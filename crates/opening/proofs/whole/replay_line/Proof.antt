@@ -89,7 +89,12 @@ store-requires c κs =
     let orders = entered .args .orders .now in
     let holds = sym (at-rules .is-allowed .ensures orders) ∙ not-false _ (at-if3 .if3 .left) in
     let fits = allowed-numbers (entered .args .n) _ terms orders holds in
-    (fits .few, (omega arith, (omega (arith, fits .room, entered .pre .terms-long), omega (arith, fits .room, entered .pre .orders-long))))
+    record {
+      few = fits .few;
+      part = omega arith;
+      in-terms = omega (arith, fits .room, entered .pre .terms-long);
+      in-orders = omega (arith, fits .room, entered .pre .orders-long);
+    }
 
 after-requires : tie.Need-after-requires
 after-requires c κs =

@@ -17,8 +17,7 @@ term-at-requires c κs =
     let pre = c .before .before .before .before .before .pre in
     let args = c .before .before .before .before .before .args in
     let previous = c .before .previous in
-    let to = pre .0 in
-    omega (arith, previous .ensures, to .sendable .next (args .i) (to .to .box) (to .to .other), to .sendable .in-terms)
+    omega (arith, previous .ensures, pre .sendable .next (args .i) (pre .to .box) (pre .to .other), pre .sendable .in-terms)
 
 entry-count-requires : tie.Need-entry-count-requires
 entry-count-requires c κs = search needs
@@ -29,14 +28,12 @@ put-append-from-requires c κs =
     let args = c .before .before .before .before .before .before .before .args in
     let previous = c .before .before .before .previous in
     let entry-count = c .entry-count in
-    let to = pre .0 in
-    let next = to .sendable .next (args .i) (to .to .box) (to .to .other) in (
-      omega (arith, previous .ensures, entry-count .ensures .0, next, to .sendable .in-terms),
-      (
-        omega (arith, previous .ensures, entry-count .ensures .0, next, to .sendable .in-orders),
-        rw (entry-count .ensures .0, previous .ensures) (pre .1),
-      ),
-    )
+    let next = pre .sendable .next (args .i) (pre .to .box) (pre .to .other) in
+    record {
+      in-terms = omega (arith, previous .ensures, entry-count .ensures .0, next, pre .sendable .in-terms);
+      in-orders = omega (arith, previous .ensures, entry-count .ensures .0, next, pre .sendable .in-orders);
+      in-room = rw (entry-count .ensures .0, previous .ensures) (pre .in-room);
+    }
 
 same-length : tie.Need-same-length
 same-length c = search needs
@@ -49,8 +46,7 @@ returns c =
     let term-at = c .before .before .before .before .term-at in
     let entry-count = c .before .before .before .entry-count in
     let put-append-from = c .before .before .put-append-from in
-    let to = pre .0 in
-    let next = to .sendable .next (args .i) (to .to .box) (to .to .other) in
+    let next = pre .sendable .next (args .i) (pre .to .box) (pre .to .other) in
     let term = term-at .ensures (args .orders .now) (args .n .last) (omega (arith, previous .ensures, next)) in
     put-append-from .ensures
     ∙ ap (λ (m : Message). over (args .room .now) 0 (text m))

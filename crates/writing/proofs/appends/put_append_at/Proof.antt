@@ -35,7 +35,11 @@ put-append-requires c κs =
     let is-other = c .before .before .is-other in
     let if1 = c .before .if1 in
     let other = sym (is-other .ensures) ∙ not-false _ (if1 .left) in
-    (record { to = record { box = pre .0; other = other }; sendable = pre .1 .0 }, omega (arith, rw other at (pre .1 .1), rest-long (args .room .now) (args .at)))
+    record {
+      to = record { box = pre .fits .box; other = other };
+      sendable = pre .sendable;
+      in-room = omega (arith, rw other at (pre .fits .in-room), rest-long (args .room .now) (args .at));
+    }
 
 append-size-requires : tie.Need-append-size-requires
 append-size-requires c κs = search needs
@@ -56,7 +60,7 @@ returns-2 c =
     let sized = c .append-size in
     let other = sym (is-other .ensures) ∙ not-false _ (if1 .left) in (
       rw (other, sized .ensures .0),
-      rw (other, texts-one, put-append .ensures) (over-rest (args .room .now) (args .at) _ (omega (arith, rw other at (pre .1 .1)))),
+      rw (other, texts-one, put-append .ensures) (over-rest (args .room .now) (args .at) _ (omega (arith, rw other at (pre .fits .in-room)))),
     )
 
 pub put-append-at-spec : {M : Type 1} → statement M

@@ -48,8 +48,8 @@ returns c =
     let whole : chars (table m) ≡ 34 + 24 * a .count = omega (arith, long) in
     let told : number 1 (length es) ≡ number 1 (a .count) = ap (number 1) (length-entries-of (a .terms .now) (a .orders .now) (a .index) (a .count)) in
     let fixed = number 2 (a .index) ∷ number 4 (a .prior) ∷ number 2 (a .commit) ∷ number 1 (a .count) ∷ [] in
-    put-line d m (omega (arith, whole, pre))
-    (rw told (put-more d 0 (start 3 (a .from) (a .to) (a .term) fixed) (entry-fields es) (omega (arith, whole, pre, long)) (put-append-start .ensures) (put-logged .ensures)))
+    put-line d m (omega (arith, whole, pre .in-room))
+    (rw told (put-more d 0 (start 3 (a .from) (a .to) (a .term) fixed) (entry-fields es) (omega (arith, whole, pre .in-room, long)) (put-append-start .ensures) (put-logged .ensures)))
     (put-end .ensures ∙ ap (λ (k : ℕ). over (put-logged .last .0) k (10 ∷ [])) (sym whole))
 
 pub put-append-from-spec : {M : Type 1} → statement M

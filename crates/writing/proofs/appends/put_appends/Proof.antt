@@ -25,7 +25,10 @@ put-append-at-requires : tie.Need-put-append-at-requires Inv-loop μ-loop
 put-append-at-requires c κs =
     let pre = c .before .before .before .before .before .before .pre in
     let loop = c .before .before .loop in
-    (record { least = omega arith; most = omega arith }, (pre .0, fill-fits _ _ _ _ (loop .inv) (omega arith) (pre .1)))
+    record {
+      sendable = pre .sendable;
+      fits = record { box = record { least = omega arith; most = omega arith }; in-room = fill-fits _ _ _ _ (loop .inv) (omega arith) (pre .in-room) };
+    }
 
 add-i : tie.Need-add-i Inv-loop μ-loop
 add-i c = search needs
@@ -41,7 +44,7 @@ loop-again c =
     let put-append-at = c .before .before .put-append-at in
     let a = args in
     fill-next (a .n) (entries-of (a .terms .now) (a .orders .now) 0 (a .n .last)) (append-to (state-of (a .n) (a .terms .now) (a .orders .now))) (append-size (a .n))
-    (append-to-long (a .n) (a .terms .now) (a .orders .now)) (loop .inv) (omega arith) (pre .1)
+    (append-to-long (a .n) (a .terms .now) (a .orders .now)) (loop .inv) (omega arith) (pre .in-room)
     (put-append-at .ensures .0) (put-append-at .kept .0) (put-append-at .ensures .1)
 
 same-length : tie.Need-same-length Inv-loop μ-loop

@@ -35,7 +35,7 @@ put-vote-request-requires c κs =
     let is-other = c .before .before .is-other in
     let if1 = c .before .if1 in
     let other = sym (is-other .ensures) ∙ not-false _ (if1 .left) in
-    omega (arith, rw other at (pre .1), rest-long (args .room .now) (args .at))
+    omega (arith, rw other at (pre .in-room), rest-long (args .room .now) (args .at))
 
 add-result : tie.Need-add-result
 add-result c = search needs
@@ -51,7 +51,7 @@ returns-2 c =
     let if1 = c .before .before .before .before .if1 in
     let put-vote-request = c .before .before .put-vote-request in
     let other = sym (is-other .ensures) ∙ not-false _ (if1 .left) in
-    (rw other, rw (other, texts-one, put-vote-request .ensures) (over-rest (args .room .now) (args .at) _ (omega (arith, rw other at (pre .1)))))
+    (rw other, rw (other, texts-one, put-vote-request .ensures) (over-rest (args .room .now) (args .at) _ (omega (arith, rw other at (pre .in-room)))))
 
 pub put-request-spec : {M : Type 1} → statement M
 put-request-spec =

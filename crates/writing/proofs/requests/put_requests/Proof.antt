@@ -22,7 +22,7 @@ put-request-requires : tie.Need-put-request-requires Inv-loop μ-loop
 put-request-requires c κs =
     let pre = c .before .before .before .before .pre in
     let loop = c .before .before .loop in
-    (record { least = omega arith; most = omega arith }, fill-fits _ _ _ _ (loop .inv) (omega arith) (pre))
+    record { box = record { least = omega arith; most = omega arith }; in-room = fill-fits _ _ _ _ (loop .inv) (omega arith) (pre) }
 
 add-i : tie.Need-add-i Inv-loop μ-loop
 add-i c = search needs

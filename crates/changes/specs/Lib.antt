@@ -1,0 +1,2 @@
+-- What the changes of a record require.
+pub mod Required
