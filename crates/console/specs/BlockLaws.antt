@@ -19,25 +19,25 @@ use Rattle.text.specs.LinesLaws.{first-most}
 use Rattle.opening.specs.ReplayCode.{lines-end, lines-next}
 use Rattle.console.specs.declared.Answered.{Answered}
 use Rattle.console.specs.Session.{outcome-of, printed}
-use Rattle.console.specs.Calls.{longest, Saying, said, saying, Says, told, tell, reached, telling, Tells, Known}
+use Rattle.console.specs.Calls.{longest, AfterLine, outcome-answer, line-answer, AnswersLine, answer-next, answer-rest, reached, lines-answer, AnswersLines, Known}
 use Rattle.printing.specs.TextLaws.{rest-whole, refusal-most}
-use Rattle.console.specs.SayingLaws.{outcome-short}
+use Rattle.console.specs.AnswerLaws.{outcome-short}
 
 -- an answer never passes the room
-saying-most : (b : Record) (line terms orders room : List ℕ) → saying b line terms orders room .answer .bytes ≤ length room
-unfolding saying said printed
-saying-most b line terms orders room = by-room (leb longest (length room)) refl
+line-answer-most : (b : Record) (line terms orders room : List ℕ) → line-answer b line terms orders room .answer .bytes ≤ length room
+unfolding line-answer outcome-answer printed
+line-answer-most b line terms orders room = by-room (leb longest (length room)) refl
   where
     s : State
     s = state-of b terms orders
 
-    by-outcome : (o : Outcome) → outcome-of line s ≡ o → longest ≤ length room → said o b terms orders room .answer .bytes ≤ length room
+    by-outcome : (o : Outcome) → outcome-of line s ≡ o → longest ≤ length room → outcome-answer o b terms orders room .answer .bytes ≤ length room
     by-outcome (done t ms) e h =
         let short = outcome-short line s t ms e in
         rw (length-append (journaled s t) (texts ms)) (omega (arith, short .line, short .sent))
     by-outcome (refuse n) e h = omega (arith, refusal-most n)
 
-    by-room : (f : Bool) → leb longest (length room) ≡ f → saying b line terms orders room .answer .bytes ≤ length room
+    by-room : (f : Bool) → leb longest (length room) ≡ f → line-answer b line terms orders room .answer .bytes ≤ length room
     by-room true e = rw e (by-outcome (outcome-of line s) refl (leb-true longest (length room) e))
     by-room false e = rw e (omega arith)
 
@@ -46,13 +46,13 @@ pub record Reached (known : Bool) (n : Record) (bytes terms₀ orders₀ room₀
   pub inside : at ≤ length bytes
   pub within : to ≤ length room
   pub long : length room ≡ length room₀
-  pub whole : telling n bytes terms₀ orders₀ room₀ ≡ tell (reached b at to terms orders room) (lines (drop at bytes))
+  pub whole : lines-answer n bytes terms₀ orders₀ room₀ ≡ answer-rest (reached b at to terms orders room) (lines (drop at bytes))
   pub knows : Known known b terms orders
 
 -- at first nothing is answered
 pub reached-first : {known : Bool} {n : Record} {bytes terms orders room : List ℕ} → Known known n terms orders
     → Reached known n bytes terms orders room n 0 0 terms orders room
-unfolding telling
+unfolding lines-answer
 reached-first k = record { inside = omega arith; within = omega arith; long = refl; whole = refl; knows = k }
 
 module _ {known : Bool} {n : Record} {bytes terms₀ orders₀ room₀ : List ℕ} {b : Record} {at to : ℕ} {terms orders room : List ℕ}
@@ -63,16 +63,16 @@ module _ {known : Bool} {n : Record} {bytes terms₀ orders₀ room₀ : List �
 
   -- no whole line is left, or no room for one more answer
   pub block-stops : (eqb end at || ltb (length room - to) longest) ≡ true
-      → Tells n bytes terms₀ orders₀ room₀ (record { state = b; taken = at; bytes = to }) terms orders room
-  unfolding tell
+      → AnswersLines n bytes terms₀ orders₀ room₀ (record { state = b; consumed = at; bytes = to }) terms orders room
+  unfolding answer-rest
   block-stops q = sym (k .whole ∙ go (eqb end at) refl)
     where
-      short : (ls : List (List ℕ)) → length room - to < longest → tell (reached b at to terms orders room) ls ≡ reached b at to terms orders room
+      short : (ls : List (List ℕ)) → length room - to < longest → answer-rest (reached b at to terms orders room) ls ≡ reached b at to terms orders room
       short [] h = refl
       short (l ∷ ls) h = rw (lt-leb longest (length room - to) h)
 
       go : (x : Bool) → eqb end at ≡ x
-          → tell (reached b at to terms orders room) (lines (drop at bytes)) ≡ reached b at to terms orders room
+          → answer-rest (reached b at to terms orders room) (lines (drop at bytes)) ≡ reached b at to terms orders room
       go true p = rw (lines-end bytes at (k .inside) (omega (arith, e, eqb-true end at p)) .0)
       go false p = short (lines (drop at bytes)) (ltb-true (length room - to) longest (rw p at q))
 
@@ -102,19 +102,19 @@ module _ {known : Bool} {n : Record} {bytes terms₀ orders₀ room₀ : List �
     pub rest-wide : longest ≤ length rest
     rest-wide = omega (arith, block-goes .wide, rest-long)
 
-    module _ {one : Answered} {terms' orders' part : List ℕ} (a : Says b (take (end - at) (drop at bytes)) terms orders rest one terms' orders' part) where
+    module _ {one : Answered} {terms' orders' part : List ℕ} (a : AnswersLine b (take (end - at) (drop at bytes)) terms orders rest one terms' orders' part) where
       -- the answer stays within it
       pub one-within : to + one .bytes ≤ length room
       one-within =
-          let most = saying-most b (take (end - at) (drop at bytes)) terms orders rest in
-          omega (arith, ap (λ (x : Saying). x .answer .bytes) a, most, rest-long, k .within)
+          let most = line-answer-most b (take (end - at) (drop at bytes)) terms orders rest in
+          omega (arith, ap (λ (x : AfterLine). x .answer .bytes) a, most, rest-long, k .within)
 
       -- one line more
-      one-told : tell (reached b at to terms orders room) (lines (drop at bytes))
-          ≡ tell (reached (one .state) end (to + one .bytes) terms' orders' (take to room ++ (part ++ drop (length room - to) (drop to room))))
+      one-answered : answer-rest (reached b at to terms orders room) (lines (drop at bytes))
+          ≡ answer-rest (reached (one .state) end (to + one .bytes) terms' orders' (take to room ++ (part ++ drop (length room - to) (drop to room))))
           (lines (drop end bytes))
-      unfolding tell told
-      one-told =
+      unfolding answer-rest answer-next
+      one-answered =
           let goes = block-goes in
           let some : first-line (drop at bytes) ≡ 0 → ⊥ = λ z. omega (arith, e, z, goes .further) in
           let gone : end - at ≡ first-line (drop at bytes) = omega (arith, e) in
@@ -140,7 +140,7 @@ module _ {known : Bool} {n : Record} {bytes terms₀ orders₀ room₀ : List �
             inside = end-inside;
             within = omega (arith, one-within, long);
             long = long ∙ k .long;
-            whole = k .whole ∙ one-told;
+            whole = k .whole ∙ one-answered;
             knows = knows;
           }
         where

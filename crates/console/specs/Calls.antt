@@ -19,7 +19,7 @@ use Rattle.record.specs.Calls.{state-of, record-of, begun}
 use Rattle.record.specs.Calls as calls
 use Rattle.console.specs.declared.Begun.{Begun}
 use Rattle.console.specs.declared.Answered.{Answered}
-use Rattle.console.specs.declared.Taken.{Taken}
+use Rattle.console.specs.declared.AnsweredLines.{AnsweredLines}
 use Rattle.console.specs.Session.{outcome-of, printed, is-start}
 use Rattle.printing.specs.Text.{refusal-line}
 
@@ -63,22 +63,23 @@ beginning line room =
 
 -- ---- a later line
 
-pub record Saying : Type 0 where
+-- The answer to a line, and everything lent, as it leaves it.
+pub record AfterLine : Type 0 where
   pub answer : Answered
   pub terms : List ℕ
   pub orders : List ℕ
   pub room : List ℕ
 
--- The next box and its log, and what is printed at the room's start; a refusal leaves box and log.
-unfoldable pub said : Outcome → Record → List ℕ → List ℕ → List ℕ → Saying
-said (done t messages) b terms orders room =
+-- Of an outcome: the next box and its log, and what is printed at the room's start; a refusal leaves box and log.
+unfoldable pub outcome-answer : Outcome → Record → List ℕ → List ℕ → List ℕ → AfterLine
+outcome-answer (done t messages) b terms orders room =
     record {
       answer = record { fits = true; state = record-of t; bytes = length (printed (state-of b terms orders) (done t messages)) };
       terms = over terms 0 (terms-of (t .log));
       orders = over orders 0 (orders-of (t .log));
       room = over room 0 (printed (state-of b terms orders) (done t messages));
     }
-said (refuse number) b terms orders room =
+outcome-answer (refuse number) b terms orders room =
     record {
       answer = record { fits = true; state = b; bytes = length (refusal-line number) };
       terms = terms;
@@ -86,45 +87,47 @@ said (refuse number) b terms orders room =
       room = over room 0 (refusal-line number);
     }
 
-unfoldable pub saying : Record → List ℕ → List ℕ → List ℕ → List ℕ → Saying
-saying b line terms orders room =
-    cond (leb longest (length room)) (said (outcome-of line (state-of b terms orders)) b terms orders room)
+-- With too little room nothing is done.
+unfoldable pub line-answer : Record → List ℕ → List ℕ → List ℕ → List ℕ → AfterLine
+line-answer b line terms orders room =
+    cond (leb longest (length room)) (outcome-answer (outcome-of line (state-of b terms orders)) b terms orders room)
     (record { answer = record { fits = false; state = b; bytes = 0 }; terms = terms; orders = orders; room = room })
 
 -- ---- a block of lines
 
-pub record Telling : Type 0 where
-  pub answer : Taken
+-- The same of the lines of a block.
+pub record AfterLines : Type 0 where
+  pub answer : AnsweredLines
   pub terms : List ℕ
   pub orders : List ℕ
   pub room : List ℕ
 
--- One more line is taken, and its answer stands behind what was printed before.
-abbrev pub behind : Telling → List ℕ → Saying → Telling
+-- One more line is answered, and its answer stands behind what was printed before.
+abbrev pub behind : AfterLines → List ℕ → AfterLine → AfterLines
 behind x line s =
     record {
-      answer = record { state = s .answer .state; taken = x .answer .taken + length line; bytes = x .answer .bytes + s .answer .bytes };
+      answer = record { state = s .answer .state; consumed = x .answer .consumed + length line; bytes = x .answer .bytes + s .answer .bytes };
       terms = s .terms;
       orders = s .orders;
       room = take (x .answer .bytes) (x .room) ++ s .room;
     }
 
-unfoldable pub told : Telling → List ℕ → Telling
-told x line = behind x line (saying (x .answer .state) line (x .terms) (x .orders) (drop (x .answer .bytes) (x .room)))
+unfoldable pub answer-next : AfterLines → List ℕ → AfterLines
+answer-next x line = behind x line (line-answer (x .answer .state) line (x .terms) (x .orders) (drop (x .answer .bytes) (x .room)))
 
 -- Line by line, for as long as the room that is left holds the longest answer.
-unfoldable pub tell : Telling → List (List ℕ) → Telling
-tell x [] = x
-tell x (line ∷ rest) = cond (leb longest (length (x .room) - x .answer .bytes)) (tell (told x line) rest) x
+unfoldable pub answer-rest : AfterLines → List (List ℕ) → AfterLines
+answer-rest x [] = x
+answer-rest x (line ∷ rest) = cond (leb longest (length (x .room) - x .answer .bytes)) (answer-rest (answer-next x line) rest) x
 
--- Where a block's lines were answered up to: the box, the bytes taken and those to be printed, and everything lent.
-abbrev pub reached : Record → ℕ → ℕ → List ℕ → List ℕ → List ℕ → Telling
+-- Where a block's lines were answered up to: the box, the bytes consumed and those to be printed, and everything lent.
+abbrev pub reached : Record → ℕ → ℕ → List ℕ → List ℕ → List ℕ → AfterLines
 reached b at to terms orders room =
-    record { answer = record { state = b; taken = at; bytes = to }; terms = terms; orders = orders; room = room }
+    record { answer = record { state = b; consumed = at; bytes = to }; terms = terms; orders = orders; room = room }
 
 -- The whole lines of some bytes.
-unfoldable pub telling : Record → List ℕ → List ℕ → List ℕ → List ℕ → Telling
-telling b bytes terms orders room = tell (reached b 0 0 terms orders room) (lines bytes)
+unfoldable pub lines-answer : Record → List ℕ → List ℕ → List ℕ → List ℕ → AfterLines
+lines-answer b bytes terms orders room = answer-rest (reached b 0 0 terms orders room) (lines bytes)
 
 -- ---- as the contracts say it: the lent things before, the answer, and the lent things behind it
 
@@ -137,18 +140,18 @@ abbrev pub Begins : (line room : List ℕ) → Begun → (room' : List ℕ) → 
 Begins line room answer room' = _≡_ {A = Beginning} (record { answer = answer; room = room' }) (beginning line room)
 
 -- a later line,
-abbrev pub Says : Record → (line terms orders room : List ℕ) → Answered → (terms' orders' room' : List ℕ) → Type 0
-Says b line terms orders room answer terms' orders' room' =
-    _≡_ {A = Saying} (record { answer = answer; terms = terms'; orders = orders'; room = room' }) (saying b line terms orders room)
+abbrev pub AnswersLine : Record → (line terms orders room : List ℕ) → Answered → (terms' orders' room' : List ℕ) → Type 0
+AnswersLine b line terms orders room answer terms' orders' room' =
+    _≡_ {A = AfterLine} (record { answer = answer; terms = terms'; orders = orders'; room = room' }) (line-answer b line terms orders room)
 
 -- and a block's lines.
-abbrev pub Tells : Record → (bytes terms orders room : List ℕ) → Taken → (terms' orders' room' : List ℕ) → Type 0
-Tells b bytes terms orders room answer terms' orders' room' =
-    _≡_ {A = Telling} (record { answer = answer; terms = terms'; orders = orders'; room = room' }) (telling b bytes terms orders room)
+abbrev pub AnswersLines : Record → (bytes terms orders room : List ℕ) → AnsweredLines → (terms' orders' room' : List ℕ) → Type 0
+AnswersLines b bytes terms orders room answer terms' orders' room' =
+    _≡_ {A = AfterLines} (record { answer = answer; terms = terms'; orders = orders'; room = room' }) (lines-answer b bytes terms orders room)
 
--- What was taken of a block and what is to be printed lie within what was lent.
-pub record Within (bytes room : List ℕ) (r : Taken) : Type 0 where
-  pub taken : r .taken ≤ length bytes
+-- What was consumed of a block and what is to be printed lie within what was lent.
+pub record Within (bytes room : List ℕ) (r : AnsweredLines) : Type 0 where
+  pub consumed : r .consumed ≤ length bytes
   pub printed : r .bytes ≤ length room
 
 -- What the inside calls require: the log is lent whole, and it is known whether the record is good.
@@ -157,7 +160,17 @@ pub record Known (known : Bool) (b : Record) (terms orders : List ℕ) : Type 0 
   pub orders-long : length orders ≡ log-limit
   pub is : known ≡ good (state-of b terms orders)
 
--- Besides, room for any answer, and aside for any messages.
+-- Room for any answer, and aside for any messages.
 pub record Roomy (room messages : List ℕ) : Type 0 where
   pub answers : longest ≤ length room
+  pub aside : longest-messages ≤ length messages
+
+-- A line can be answered,
+pub record Answerable (known : Bool) (b : Record) (terms orders room messages : List ℕ) : Type 0 where
+  pub knows : Known known b terms orders
+  pub roomy : Roomy room messages
+
+-- and a block's lines: whether the room holds the next answer is looked at before each.
+pub record AllAnswerable (known : Bool) (b : Record) (terms orders messages : List ℕ) : Type 0 where
+  pub knows : Known known b terms orders
   pub aside : longest-messages ≤ length messages

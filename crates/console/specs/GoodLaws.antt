@@ -21,13 +21,13 @@ use Rattle.record.specs.Calls.{state-of, Ready}
 use Rattle.record.specs.SameLaws.{next-lent}
 use Rattle.console.specs.declared.Answered.{Answered}
 use Rattle.console.specs.Session.{event-of, outcome-of}
-use Rattle.console.specs.Calls.{longest, Saying, said, saying, Says, Known}
+use Rattle.console.specs.Calls.{longest, AfterLine, outcome-answer, line-answer, AnswersLine, Known}
 
 -- a record that is known to be good is ready for any event
 pub ready : {known : Bool} {b : Record} {terms orders : List ℕ} → Known known b terms orders → known ≡ true → Ready b terms orders
 ready k g = record { terms-long = k .terms-long; orders-long = k .orders-long; rules = sym (k .is) ∙ g }
 
--- a line that is done was taken at a good record, and leaves one
+-- a line that is done was answered at a good record, and leaves one
 pub record Stayed (s t : State) : Type 0 where
   pub before : good s ≡ true
   pub after : good t ≡ true
@@ -42,10 +42,10 @@ outcome-good line s t ms e = go (good s) refl e
 
 module _ {known : Bool} (line : List ℕ) {b : Record} {terms orders : List ℕ} (room : List ℕ) (k : Known known b terms orders) where
   -- whatever a line comes to
-  said-known : (o : Outcome) → outcome-of line (state-of b terms orders) ≡ o
-      → Known known (said o b terms orders room .answer .state) (said o b terms orders room .terms) (said o b terms orders room .orders)
-  unfolding said
-  said-known (done t ms) e =
+  outcome-known : (o : Outcome) → outcome-of line (state-of b terms orders) ≡ o
+      → Known known (outcome-answer o b terms orders room .answer .state) (outcome-answer o b terms orders room .terms) (outcome-answer o b terms orders room .orders)
+  unfolding outcome-answer
+  outcome-known (done t ms) e =
       let stayed = outcome-good line (state-of b terms orders) t ms e in
       let fits = good-facts t (stayed .after) .room in
       record {
@@ -53,16 +53,16 @@ module _ {known : Bool} (line : List ℕ) {b : Record} {terms orders : List ℕ}
         orders-long = length-over orders 0 (orders-of (t .log)) (omega (arith, orders-long (t .log), fits, k .orders-long)) ∙ k .orders-long;
         is = k .is ∙ stayed .before ∙ sym (ap good (next-lent t terms orders) ∙ stayed .after);
       }
-  said-known (refuse n) e = k
+  outcome-known (refuse n) e = k
 
   -- what was known of the record is known of the next
-  pub known-stays : longest ≤ length room → {one : Answered} {terms' orders' room' : List ℕ} → Says b line terms orders room one terms' orders' room'
+  pub known-stays : longest ≤ length room → {one : Answered} {terms' orders' room' : List ℕ} → AnswersLine b line terms orders room one terms' orders' room'
       → Known known (one .state) terms' orders'
-  unfolding saying
+  unfolding line-answer
   known-stays wide {one} {terms'} {orders'} {room'} e =
-      rw (ap (λ (x : Saying). x .answer .state) all, ap (λ (x : Saying). x .terms) all, ap (λ (x : Saying). x .orders) all)
-      (said-known (outcome-of line (state-of b terms orders)) refl)
+      rw (ap (λ (x : AfterLine). x .answer .state) all, ap (λ (x : AfterLine). x .terms) all, ap (λ (x : AfterLine). x .orders) all)
+      (outcome-known (outcome-of line (state-of b terms orders)) refl)
     where
-      all : _≡_ {A = Saying} (record { answer = one; terms = terms'; orders = orders'; room = room' })
-          (said (outcome-of line (state-of b terms orders)) b terms orders room)
+      all : _≡_ {A = AfterLine} (record { answer = one; terms = terms'; orders = orders'; room = room' })
+          (outcome-answer (outcome-of line (state-of b terms orders)) b terms orders room)
       all = e ∙ rw (le-leb longest (length room) wide)

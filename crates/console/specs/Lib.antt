@@ -3,7 +3,7 @@ pub mod Session
 pub mod Calls
 pub mod LineLaws
 pub mod GoodLaws
-pub mod SayingLaws
+pub mod AnswerLaws
 pub mod BeginLaws
 pub mod BlockLaws
 pub mod SessionLaws

@@ -16,8 +16,8 @@ use Rattle.journal.specs.LinesLaws.{Feedless, Whole, strung, Split, split, spli
 use Rattle.record.specs.declared.Record.{Record}
 use Rattle.record.specs.Calls.{state-of}
 use Rattle.console.specs.Session.{answers, talk, session}
-use Rattle.console.specs.Calls.{longest, Beginning, beginning, Telling, telling}
-use Rattle.console.specs.SessionLaws.{text-of, Told, tell-prints, all-told, shortened-same, too-long-start, session-none, session-begins}
+use Rattle.console.specs.Calls.{longest, Beginning, beginning, AfterLines, lines-answer}
+use Rattle.console.specs.SessionLaws.{text-of, LinesAnswered, lines-print, all-answered, shortened-same, too-long-start, session-none, session-begins}
 
 -- ---- a line of which only a part is kept
 
@@ -99,36 +99,36 @@ module _ (a b : List ℕ) (f : Feedless a) (g : Feedless b) (h : longest-message
 -- A box, its lent log, the bytes that the block holds, those that are to be read yet, and what is printed from here on.
 pub data Run : Record → List ℕ → List ℕ → List ℕ → List ℕ → List ℕ → Type 0 where
   -- a call answers lines of the block and prints their answers
-  tells : {b : Record} {held terms orders input printed : List ℕ} (room : List ℕ) (y : Telling) → y ≡ telling b held terms orders room
-      → Run (y .answer .state) (y .terms) (y .orders) (drop (y .answer .taken) held) input printed
+  answers-block : {b : Record} {held terms orders input printed : List ℕ} (room : List ℕ) (y : AfterLines) → y ≡ lines-answer b held terms orders room
+      → Run (y .answer .state) (y .terms) (y .orders) (drop (y .answer .consumed) held) input printed
       → Run b terms orders held input (text-of y ++ printed)
   -- more is read behind what the block holds
   reads : {b : Record} {held terms orders input printed : List ℕ} (block : List ℕ) → Run b terms orders (held ++ block) input printed
       → Run b terms orders held (block ++ input) printed
   -- a call took nothing, and of a line that is too long already only a part is kept, that is too long too
   shortens : {b : Record} {held terms orders input printed : List ℕ} (room : List ℕ) → longest ≤ length room
-      → telling b held terms orders room .answer .taken ≡ 0 → (n : ℕ) → longest-message < length (take n held)
+      → lines-answer b held terms orders room .answer .consumed ≡ 0 → (n : ℕ) → longest-message < length (take n held)
       → Run b terms orders (take n held) input printed → Run b terms orders held input printed
   -- a call took nothing, and the input has ended
-  ends : {b : Record} {held terms orders : List ℕ} (room : List ℕ) → longest ≤ length room → telling b held terms orders room .answer .taken ≡ 0
+  ends : {b : Record} {held terms orders : List ℕ} (room : List ℕ) → longest ≤ length room → lines-answer b held terms orders room .answer .consumed ≡ 0
       → Run b terms orders held [] []
 
 -- **However the input is cut, what is printed is what the box has to print of all its lines.**
 pub run-prints : (b : Record) (terms orders held input printed : List ℕ) → Run b terms orders held input printed → length terms ≡ log-limit
     → length orders ≡ log-limit → printed ≡ answers (state-of b terms orders) (lines (held ++ input))
 unfolding answers
-run-prints b terms orders held input text (tells {printed = printed} room y e r) p q =
-    let t : Told b held terms orders y = rw e (tell-prints b held terms orders room p q) in
-    let rest = run-prints (y .answer .state) (y .terms) (y .orders) (drop (y .answer .taken) held) input printed r (t .terms-stay) (t .orders-stay) in
+run-prints b terms orders held input text (answers-block {printed = printed} room y e r) p q =
+    let t : LinesAnswered b held terms orders y = rw e (lines-print b held terms orders room p q) in
+    let rest = run-prints (y .answer .state) (y .terms) (y .orders) (drop (y .answer .consumed) held) input printed r (t .terms-stay) (t .orders-stay) in
     ap (λ (l : List ℕ). text-of y ++ l) rest ∙ sym (t .prints-on input)
 run-prints b terms orders held _ printed (reads {input = input} block r) p q =
     rw (← append-assoc held block input) (run-prints b terms orders (held ++ block) input printed r p q)
 run-prints b terms orders held input printed (shortens room wide none n long r) p q =
-    let free = feedless held (all-told b held terms orders room wide none .0) in
+    let free = feedless held (all-answered b held terms orders room wide none .0) in
     run-prints b terms orders (take n held) input printed r p q
     ∙ shortened-answers (take n held) held (feedless-take n held free) free long (omega (arith, length-take n held)) (state-of b terms orders) input
 run-prints b terms orders held input printed (ends room wide none) p q =
-    rw (append-nil held, all-told b held terms orders room wide none .0) refl
+    rw (append-nil held, all-answered b held terms orders room wide none .0) refl
 
 -- ---- the whole program
 
@@ -183,31 +183,31 @@ program-session input printed r = program-prints [] input printed r
 
 -- ---- and there is such a run
 
--- Called again and again, the program comes to where nothing is taken, since each call before takes something.
+-- Called again and again, the program comes to where nothing is consumed, since each call before consumes something.
 calls-end : (n : ℕ) (b : Record) (terms orders held room : List ℕ) → length held ≤ n → longest ≤ length room → length terms ≡ log-limit
     → length orders ≡ log-limit → (printed : List ℕ) × Run b terms orders held [] printed
 calls-end zero b terms orders held room l wide p q =
-    let none : telling b held terms orders room .answer .taken ≡ 0 = omega (arith, tell-prints b held terms orders room p q .taken) in
+    let none : lines-answer b held terms orders room .answer .consumed ≡ 0 = omega (arith, lines-print b held terms orders room p q .consumed) in
     ([], ends room wide none)
 calls-end (suc n) b terms orders held room l wide p q =
-    let t = tell-prints b held terms orders room p q in
-    go (eqb (y .answer .taken) 0) refl
+    let t = lines-print b held terms orders room p q in
+    go (eqb (y .answer .consumed) 0) refl
     (λ some.
-    let less : length (drop (y .answer .taken) held) ≤ n = omega (arith, some, length-drop (y .answer .taken) held) in
-    calls-end n (y .answer .state) (y .terms) (y .orders) (drop (y .answer .taken) held) room less wide (t .terms-stay) (t .orders-stay))
+    let less : length (drop (y .answer .consumed) held) ≤ n = omega (arith, some, length-drop (y .answer .consumed) held) in
+    calls-end n (y .answer .state) (y .terms) (y .orders) (drop (y .answer .consumed) held) room less wide (t .terms-stay) (t .orders-stay))
   where
-    y : Telling
-    y = telling b held terms orders room
+    y : AfterLines
+    y = lines-answer b held terms orders room
 
-    go : (e : Bool) → eqb (y .answer .taken) 0 ≡ e
-        → (1 ≤ y .answer .taken
-        → (printed : List ℕ) × Run (y .answer .state) (y .terms) (y .orders) (drop (y .answer .taken) held) [] printed)
+    go : (e : Bool) → eqb (y .answer .consumed) 0 ≡ e
+        → (1 ≤ y .answer .consumed
+        → (printed : List ℕ) × Run (y .answer .state) (y .terms) (y .orders) (drop (y .answer .consumed) held) [] printed)
         → (printed : List ℕ) × Run b terms orders held [] printed
-    go true e more = ([], ends room wide (eqb-true (y .answer .taken) 0 e))
+    go true e more = ([], ends room wide (eqb-true (y .answer .consumed) 0 e))
     go false e more =
-        let some : (y .answer .taken ≡ 0 → ⊥) = eqb-false (y .answer .taken) 0 e in
+        let some : (y .answer .consumed ≡ 0 → ⊥) = eqb-false (y .answer .consumed) 0 e in
         let rest = more (omega arith) in
-        (text-of y ++ rest .0, tells room y refl (rest .1))
+        (text-of y ++ rest .0, answers-block room y refl (rest .1))
 
 module _ (room terms orders : List ℕ) (wide : longest ≤ length room) (p : length terms ≡ log-limit) (q : length orders ≡ log-limit) where
   -- So whatever a box holds and reads, there is a run of it,

@@ -29,7 +29,7 @@ use Rattle.record.specs.declared.Record.{Record}
 use Rattle.record.specs.Calls.{state-of}
 use Rattle.console.specs.Session.{letter-t, letter-p, outcome-of, printed, next-of, answers, is-start, talk, session}
 use Rattle.printing.specs.Text.{refusal-line}
-use Rattle.console.specs.Calls.{longest, Beginning, beginning, Saying, said, saying, Telling, told, tell, reached, telling, Known}
+use Rattle.console.specs.Calls.{longest, Beginning, beginning, AfterLine, outcome-answer, line-answer, AfterLines, answer-next, answer-rest, reached, lines-answer, Known}
 use Rattle.console.specs.LineLaws.{letter-long, order-long, asks-receive, outcome-step, not-good}
 use Rattle.printing.specs.TextLaws.{taken-back}
 use Rattle.console.specs.BeginLaws.{unshaped, shaped}
@@ -48,21 +48,21 @@ module _ (line : List ℕ) (b : Record) (terms orders room : List ℕ) where
   s = state-of b terms orders
 
   -- What the answer to a line leaves: its text at the room's start, and in the struct and the lent log the next record.
-  record Leaves (known : Bool) (y : Saying) : Type 0 where
+  record Leaves (known : Bool) (y : AfterLine) : Type 0 where
     text : take (y .answer .bytes) (y .room) ≡ printed s (outcome-of line s)
     next : state-of (y .answer .state) (y .terms) (y .orders) ≡ next-of s (outcome-of line s)
     knows : Known known (y .answer .state) (y .terms) (y .orders)
     within : y .answer .bytes ≤ length (y .room)
 
   -- So it is, whatever the line comes to, since a log fits.
-  leaves : {known : Bool} → Known known b terms orders → longest ≤ length room → Leaves known (saying b line terms orders room)
-  unfolding saying said printed next-of
+  leaves : {known : Bool} → Known known b terms orders → longest ≤ length room → Leaves known (line-answer b line terms orders room)
+  unfolding line-answer outcome-answer printed next-of
   leaves {known} k wide = go (outcome-of line s) refl
     where
-      knows : Known known (saying b line terms orders room .answer .state) (saying b line terms orders room .terms) (saying b line terms orders room .orders)
+      knows : Known known (line-answer b line terms orders room .answer .state) (line-answer b line terms orders room .terms) (line-answer b line terms orders room .orders)
       knows = known-stays line room k wide refl
 
-      go : (o : Outcome) → outcome-of line s ≡ o → Leaves known (saying b line terms orders room)
+      go : (o : Outcome) → outcome-of line s ≡ o → Leaves known (line-answer b line terms orders room)
       go (done t ms) e =
           let wide' = le-leb longest (length room) wide in
           record {
@@ -83,11 +83,11 @@ module _ (line : List ℕ) (b : Record) (terms orders room : List ℕ) where
 -- ---- a block of lines
 
 -- The record of a box that has answered some lines.
-abbrev pub box-of : Telling → State
+abbrev pub box-of : AfterLines → State
 box-of x = state-of (x .answer .state) (x .terms) (x .orders)
 
 -- The text that is printed of it.
-abbrev pub text-of : Telling → List ℕ
+abbrev pub text-of : AfterLines → List ℕ
 text-of x = take (x .answer .bytes) (x .room)
 
 -- One text behind another, in what was lent: both are read back.
@@ -96,51 +96,51 @@ text-behind n m a d h =
     ap (λ (k : ℕ). take (k + m) (take n a ++ d)) (sym (length-take-le n a h)) ∙ take-append-add (take n a) d m
 
 -- A place is sound where the lent log is whole, and what is printed lies in the room.
-record Sound (known : Bool) (x : Telling) : Type 0 where
+record Sound (known : Bool) (x : AfterLines) : Type 0 where
   knows : Known known (x .answer .state) (x .terms) (x .orders)
   within : x .answer .bytes ≤ length (x .room)
 
--- From one place of a block to a later one: some lines were taken, and what is printed and what is left to print make the same whole.
-record Goes (known : Bool) (x : Telling) (ls : List (List ℕ)) (y : Telling) : Type 0 where
+-- From one place of a block to a later one: some lines were answered, and what is printed and what is left to print make the same whole.
+record Goes (known : Bool) (x : AfterLines) (ls : List (List ℕ)) (y : AfterLines) : Type 0 where
   took : List (List ℕ)
   left : List (List ℕ)
   both : ls ≡ took ++ left
-  taken : y .answer .taken ≡ x .answer .taken + length (strung took)
+  consumed : y .answer .consumed ≡ x .answer .consumed + length (strung took)
   prints : (more : List (List ℕ)) → text-of x ++ answers (box-of x) (ls ++ more) ≡ text-of y ++ answers (box-of y) (left ++ more)
   sound : Sound known y
 
--- Nothing taken: all is as it was.
-goes-nowhere : {known : Bool} (x : Telling) (ls : List (List ℕ)) → Sound known x → Goes known x ls x
+-- Nothing answered: all is as it was.
+goes-nowhere : {known : Bool} (x : AfterLines) (ls : List (List ℕ)) → Sound known x → Goes known x ls x
 unfolding strung
 goes-nowhere x ls k =
-    record { took = []; left = ls; both = refl; taken = omega arith; prints = λ more. refl; sound = k }
+    record { took = []; left = ls; both = refl; consumed = omega arith; prints = λ more. refl; sound = k }
 
-module _ {known : Bool} (x : Telling) (line : List ℕ) (k : Sound known x) (wide : longest ≤ length (x .room) - x .answer .bytes) where
+module _ {known : Bool} (x : AfterLines) (line : List ℕ) (k : Sound known x) (wide : longest ≤ length (x .room) - x .answer .bytes) where
   -- The answer to one line more, in the room that is left.
   abbrev rest : List ℕ
   rest = drop (x .answer .bytes) (x .room)
 
-  abbrev one : Saying
-  one = saying (x .answer .state) line (x .terms) (x .orders) rest
+  abbrev one : AfterLine
+  one = line-answer (x .answer .state) line (x .terms) (x .orders) rest
 
   one-leaves : Leaves line (x .answer .state) (x .terms) (x .orders) rest known one
   one-leaves =
       leaves line (x .answer .state) (x .terms) (x .orders) rest (k .knows) (rw (length-drop (x .answer .bytes) (x .room)) wide)
 
   -- It leaves a place that is sound.
-  told-sound : Sound known (told x line)
-  unfolding told
-  told-sound =
+  next-sound : Sound known (answer-next x line)
+  unfolding answer-next
+  next-sound =
       record {
         knows = one-leaves .knows;
         within = rw (length-append, length-take-le (x .answer .bytes) (x .room) (k .within)) (omega (arith, one-leaves .within));
       }
 
   -- Its text stands behind what was printed, and the box that it leaves is the next: so what is printed and what is left to print stay the same whole.
-  told-prints : (ls : List (List ℕ))
-      → text-of x ++ answers (box-of x) (line ∷ ls) ≡ text-of (told x line) ++ answers (box-of (told x line)) ls
-  unfolding told answers
-  told-prints ls =
+  next-prints : (ls : List (List ℕ))
+      → text-of x ++ answers (box-of x) (line ∷ ls) ≡ text-of (answer-next x line) ++ answers (box-of (answer-next x line)) ls
+  unfolding answer-next answers
+  next-prints ls =
       let outcome = outcome-of line (box-of x) in
       rw (
         text-behind (x .answer .bytes) (one .answer .bytes) (x .room) (one .room) (k .within),
@@ -150,30 +150,30 @@ module _ {known : Bool} (x : Telling) (line : List ℕ) (k : Sound known x) (wid
       )
 
   -- Then the lines behind it.
-  goes-on : (ls : List (List ℕ)) (y : Telling) → Goes known (told x line) ls y → Goes known x (line ∷ ls) y
-  unfolding told strung
+  goes-on : (ls : List (List ℕ)) (y : AfterLines) → Goes known (answer-next x line) ls y → Goes known x (line ∷ ls) y
+  unfolding answer-next strung
   goes-on ls y g =
       record {
         took = line ∷ g .took;
         left = g .left;
         both = ap (λ (l : List (List ℕ)). line ∷ l) (g .both);
-        taken = g .taken ∙ rw (length-append line (strung (g .took))) (omega arith);
-        prints = λ more. told-prints (ls ++ more) ∙ g .prints more;
+        consumed = g .consumed ∙ rw (length-append line (strung (g .took))) (omega arith);
+        prints = λ more. next-prints (ls ++ more) ∙ g .prints more;
         sound = g .sound;
       }
 
 -- Line by line, up to where no line or no room is left.
-goes : {known : Bool} (x : Telling) (ls : List (List ℕ)) → Sound known x → Goes known x ls (tell x ls)
-unfolding tell
+goes : {known : Bool} (x : AfterLines) (ls : List (List ℕ)) → Sound known x → Goes known x ls (answer-rest x ls)
+unfolding answer-rest
 goes x [] k = goes-nowhere x [] k
-goes {known} x (line ∷ ls) k = go (leb longest (length (x .room) - x .answer .bytes)) refl (goes (told x line) ls)
+goes {known} x (line ∷ ls) k = go (leb longest (length (x .room) - x .answer .bytes)) refl (goes (answer-next x line) ls)
   where
     go : (b : Bool) → leb longest (length (x .room) - x .answer .bytes) ≡ b
-        → (Sound known (told x line) → Goes known (told x line) ls (tell (told x line) ls))
-        → Goes known x (line ∷ ls) (cond b (tell (told x line) ls) x)
+        → (Sound known (answer-next x line) → Goes known (answer-next x line) ls (answer-rest (answer-next x line) ls))
+        → Goes known x (line ∷ ls) (cond b (answer-rest (answer-next x line) ls) x)
     go true e more =
         let wide = leb-true longest (length (x .room) - x .answer .bytes) e in
-        goes-on x line k wide ls (tell (told x line) ls) (more (told-sound x line k wide))
+        goes-on x line k wide ls (answer-rest (answer-next x line) ls) (more (next-sound x line k wide))
     go false e more = goes-nowhere x (line ∷ ls) k
 
 -- ---- the bytes of a block
@@ -206,22 +206,22 @@ more-lines bytes more =
     ap (λ (l : List ℕ). lines (l ++ more)) (lines-kept bytes)
     ∙ rw (append-assoc (strung (lines bytes)) (kept bytes) more) (lines-on (lines bytes) (kept bytes ++ more) (lines-whole bytes))
 
--- Where some of the lines are taken,
+-- Where some of the lines are consumed,
 module _ (bytes : List ℕ) (took left : List (List ℕ)) (both : lines bytes ≡ took ++ left) where
   -- the bytes are those lines, the other lines and what is kept:
-  taken-parts : bytes ≡ strung took ++ (strung left ++ kept bytes)
-  taken-parts =
+  consumed-parts : bytes ≡ strung took ++ (strung left ++ kept bytes)
+  consumed-parts =
       lines-kept bytes ∙ rw (both, strung-append took left, append-assoc (strung took) (strung left) (kept bytes))
 
-  -- no more bytes are taken than there are,
-  taken-most : length (strung took) ≤ length bytes
-  taken-most = omega (arith, simp length-append at (ap length taken-parts))
+  -- no more bytes are consumed than there are,
+  consumed-most : length (strung took) ≤ length bytes
+  consumed-most = omega (arith, simp length-append at (ap length consumed-parts))
 
   -- and the bytes behind them begin with the other lines, whatever comes behind.
   lines-left : (more : List ℕ) → lines (drop (length (strung took)) bytes ++ more) ≡ left ++ lines (kept bytes ++ more)
   lines-left more =
       let behind : drop (length (strung took)) bytes ≡ strung left ++ kept bytes =
-      ap (drop (length (strung took))) taken-parts ∙ drop-at (strung took) (strung left ++ kept bytes) (length (strung took)) refl in
+      ap (drop (length (strung took))) consumed-parts ∙ drop-at (strung took) (strung left ++ kept bytes) (length (strung took)) refl in
       let whole : All Whole left = all-behind Whole took left (rw both at (lines-whole bytes)) in
       rw (behind, append-assoc (strung left) (kept bytes) more) (lines-on left (kept bytes ++ more) whole)
 
@@ -229,33 +229,33 @@ module _ (bytes : List ℕ) (took left : List (List ℕ)) (both : lines bytes �
 
 -- What a call leaves, of a box and some bytes: the text that it prints, and what the box then has to print of the bytes that are left, make all that the
 -- box had to print; and so they do whatever more is read. A good record stays good, the lent log stays whole.
-pub record Told (b : Record) (bytes terms orders : List ℕ) (y : Telling) : Type 0 where
-  pub prints : answers (state-of b terms orders) (lines bytes) ≡ text-of y ++ answers (box-of y) (lines (drop (y .answer .taken) bytes))
+pub record LinesAnswered (b : Record) (bytes terms orders : List ℕ) (y : AfterLines) : Type 0 where
+  pub prints : answers (state-of b terms orders) (lines bytes) ≡ text-of y ++ answers (box-of y) (lines (drop (y .answer .consumed) bytes))
   pub prints-on : (more : List ℕ)
-      → answers (state-of b terms orders) (lines (bytes ++ more)) ≡ text-of y ++ answers (box-of y) (lines (drop (y .answer .taken) bytes ++ more))
+      → answers (state-of b terms orders) (lines (bytes ++ more)) ≡ text-of y ++ answers (box-of y) (lines (drop (y .answer .consumed) bytes ++ more))
   pub stays : good (state-of b terms orders) ≡ good (box-of y)
   pub terms-stay : length (y .terms) ≡ log-limit
   pub orders-stay : length (y .orders) ≡ log-limit
-  pub taken : y .answer .taken ≤ length bytes
+  pub consumed : y .answer .consumed ≤ length bytes
   pub within : y .answer .bytes ≤ length (y .room)
 
 -- So it is for every record, good or not, any bytes and any room: line by line, by what one line prints and leaves.
-pub tell-prints : (b : Record) (bytes terms orders room : List ℕ) → length terms ≡ log-limit → length orders ≡ log-limit
-    → Told b bytes terms orders (telling b bytes terms orders room)
-unfolding telling
-tell-prints b bytes terms orders room p q =
+pub lines-print : (b : Record) (bytes terms orders room : List ℕ) → length terms ≡ log-limit → length orders ≡ log-limit
+    → LinesAnswered b bytes terms orders (lines-answer b bytes terms orders room)
+unfolding lines-answer
+lines-print b bytes terms orders room p q =
     record {
-      prints = rw (append-nil bytes, append-nil (drop (y .answer .taken) bytes)) at (on []);
+      prints = rw (append-nil bytes, append-nil (drop (y .answer .consumed) bytes)) at (on []);
       prints-on = on;
       stays = g .sound .knows .is;
       terms-stay = g .sound .knows .terms-long;
       orders-stay = g .sound .knows .orders-long;
-      taken = omega (arith, g .taken, taken-most bytes (g .took) (g .left) (g .both));
+      consumed = omega (arith, g .consumed, consumed-most bytes (g .took) (g .left) (g .both));
       within = g .sound .within;
     }
   where
-    y : Telling
-    y = telling b bytes terms orders room
+    y : AfterLines
+    y = lines-answer b bytes terms orders room
 
     g : Goes (good (state-of b terms orders)) (reached b 0 0 terms orders room) (lines bytes) y
     g =
@@ -263,21 +263,21 @@ tell-prints b bytes terms orders room p q =
         (record { knows = record { terms-long = p; orders-long = q; is = refl }; within = omega arith })
 
     on : (more : List ℕ)
-        → answers (state-of b terms orders) (lines (bytes ++ more)) ≡ text-of y ++ answers (box-of y) (lines (drop (y .answer .taken) bytes ++ more))
+        → answers (state-of b terms orders) (lines (bytes ++ more)) ≡ text-of y ++ answers (box-of y) (lines (drop (y .answer .consumed) bytes ++ more))
     on more =
-        let taken : y .answer .taken ≡ length (strung (g .took)) = omega (arith, g .taken) in
-        rw (more-lines bytes more, taken, lines-left bytes (g .took) (g .left) (g .both) more) (g .prints (lines (kept bytes ++ more)))
+        let consumed : y .answer .consumed ≡ length (strung (g .took)) = omega (arith, g .consumed) in
+        rw (more-lines bytes more, consumed, lines-left bytes (g .took) (g .left) (g .both) more) (g .prints (lines (kept bytes ++ more)))
 
--- ---- called until nothing is taken, it answers all lines
+-- ---- called until nothing is consumed, it answers all lines
 
--- What is taken stays taken.
-tell-more : (x : Telling) (ls : List (List ℕ)) → x .answer .taken ≤ tell x ls .answer .taken
-unfolding tell told
-tell-more x [] = omega arith
-tell-more x (line ∷ ls) = go (leb longest (length (x .room) - x .answer .bytes)) (tell-more (told x line) ls)
+-- What is consumed stays consumed.
+consumed-more : (x : AfterLines) (ls : List (List ℕ)) → x .answer .consumed ≤ answer-rest x ls .answer .consumed
+unfolding answer-rest answer-next
+consumed-more x [] = omega arith
+consumed-more x (line ∷ ls) = go (leb longest (length (x .room) - x .answer .bytes)) (consumed-more (answer-next x line) ls)
   where
-    go : (b : Bool) → x .answer .taken + length line ≤ tell (told x line) ls .answer .taken
-        → x .answer .taken ≤ cond b (tell (told x line) ls) x .answer .taken
+    go : (b : Bool) → x .answer .consumed + length line ≤ answer-rest (answer-next x line) ls .answer .consumed
+        → x .answer .consumed ≤ cond b (answer-rest (answer-next x line) ls) x .answer .consumed
     go true h = omega arith
     go false h = omega arith
 
@@ -286,25 +286,25 @@ whole-some : (line : List ℕ) → Whole line → 1 ≤ length line
 whole-some line w = omega (arith, simp length-append at (ap length (w .ended)))
 
 module _ (b : Record) (bytes terms orders room : List ℕ) (wide : longest ≤ length room) where
-  -- With room for the longest answer, the first whole line is taken.
-  pub progress : (lines bytes ≡ [] → ⊥) → 1 ≤ telling b bytes terms orders room .answer .taken
-  unfolding telling tell told All
+  -- With room for the longest answer, the first whole line is consumed.
+  pub progress : (lines bytes ≡ [] → ⊥) → 1 ≤ lines-answer b bytes terms orders room .answer .consumed
+  unfolding lines-answer answer-rest answer-next All
   progress some = go (lines bytes) refl
     where
-      go : (ls : List (List ℕ)) → lines bytes ≡ ls → 1 ≤ telling b bytes terms orders room .answer .taken
+      go : (ls : List (List ℕ)) → lines bytes ≡ ls → 1 ≤ lines-answer b bytes terms orders room .answer .consumed
       go [] e = absurd (some e)
       go (line ∷ ls) e =
           let long = whole-some line ((rw e at (lines-whole bytes)) .0) in
-          let more = tell-more (told (reached b 0 0 terms orders room) line) ls in
+          let more = consumed-more (answer-next (reached b 0 0 terms orders room) line) ls in
           rw (e, le-leb longest (length room - 0) (omega arith)) (omega (arith, long, more))
 
-  -- So where nothing is taken no whole line is left, nothing is printed, and the box and the lent log are as they were.
-  pub all-told : telling b bytes terms orders room .answer .taken ≡ 0
-      → (lines bytes ≡ []) × (telling b bytes terms orders room ≡ reached b 0 0 terms orders room)
-  unfolding telling tell
-  all-told none = go (lines bytes) refl
+  -- So where nothing is consumed no whole line is left, nothing is printed, and the box and the lent log are as they were.
+  pub all-answered : lines-answer b bytes terms orders room .answer .consumed ≡ 0
+      → (lines bytes ≡ []) × (lines-answer b bytes terms orders room ≡ reached b 0 0 terms orders room)
+  unfolding lines-answer answer-rest
+  all-answered none = go (lines bytes) refl
     where
-      go : (ls : List (List ℕ)) → lines bytes ≡ ls → (lines bytes ≡ []) × (telling b bytes terms orders room ≡ reached b 0 0 terms orders room)
+      go : (ls : List (List ℕ)) → lines bytes ≡ ls → (lines bytes ≡ []) × (lines-answer b bytes terms orders room ≡ reached b 0 0 terms orders room)
       go [] e = (e, rw e)
       go (line ∷ ls) e =
           absurd (omega (arith, none, progress (λ z. let never : _≡_ {A = ℕ} 0 1 = cc in omega arith)))

@@ -1,12 +1,9 @@
 // A block of lines, answered one behind the other.
 use crate::Answered;
-use crate::Taken;
+use crate::AnsweredLines;
 use crate::lines::answer_known;
 use record::Record;
-ghost use Prim.Native.Nat.{_≤_};
-ghost use lib.ListN.{length};
-ghost use Rattle.journal.specs.LongestLaws.{longest-messages};
-ghost use Rattle.console.specs.Calls.{Tells, Within, Known};
+ghost use Rattle.console.specs.Calls.{AnswersLines, Within, AllAnswerable};
 
 // The lines one behind the other, at a record of which it is known whether it is good.
 fn answer_each(
@@ -17,10 +14,9 @@ fn answer_each(
     orders: &mut [u64],
     room: &mut [u8],
     messages: &mut [u8],
-) -> Taken
-    requires { ⌜ Known known n (now terms) (now orders) ⌝ }
-    requires { ⌜ longest-messages ≤ length (now messages) ⌝ }
-    ensures { λ r. ⌜ Tells n (now (bytes .entry)) (now (terms .entry)) (now (orders .entry)) (now (room .entry)) r
+) -> AnsweredLines
+    requires { ⌜ AllAnswerable known n (now terms) (now orders) (now messages) ⌝ }
+    ensures { λ r. ⌜ AnswersLines n (now (bytes .entry)) (now (terms .entry)) (now (orders .entry)) (now (room .entry)) r
         (now (terms .exit)) (now (orders .exit)) (now (room .exit)) ⌝ }
     ensures { λ r. ⌜ Within (now (bytes .entry)) (now (room .entry)) r ⌝ }
 {
@@ -30,9 +26,9 @@ fn answer_each(
     loop {
         let end = text::line_end(bytes, at);
         if (end == at) | (room.len() - to < Answered::LONGEST) {
-            return Taken {
+            return AnsweredLines {
                 state,
-                taken: at,
+                consumed: at,
                 bytes: to,
             };
         }
@@ -58,8 +54,8 @@ pub fn answer_lines(
     terms: &mut [u32; Record::LOG],
     orders: &mut [u64; Record::LOG],
     room: &mut [u8],
-) -> Taken
-    ensures { λ r. ⌜ Tells n (now (bytes .entry)) (now (terms .entry)) (now (orders .entry)) (now (room .entry)) r
+) -> AnsweredLines
+    ensures { λ r. ⌜ AnswersLines n (now (bytes .entry)) (now (terms .entry)) (now (orders .entry)) (now (room .entry)) r
         (now (terms .exit)) (now (orders .exit)) (now (room .exit)) ⌝ }
     ensures { λ r. ⌜ Within (now (bytes .entry)) (now (room .entry)) r ⌝ }
 {

@@ -30,9 +30,9 @@ impl Answered {
     pub const MESSAGES: usize = (Record::BOXES - 1) * (35 + 24 * Record::ENTRIES);
 }
 
-// What was made of a block of lines: the next box, how many bytes of whole lines were taken, and how many are to be printed.
-pub struct Taken {
+// What was made of a block of lines: the next box, how many bytes of whole lines were consumed, and how many are to be printed.
+pub struct AnsweredLines {
     pub state: Record,
-    pub taken: usize,
+    pub consumed: usize,
     pub bytes: usize,
 }

@@ -12,7 +12,7 @@ ghost use Prim.Native.Nat.{_≤_};
 ghost use lib.ListN.{length};
 ghost use Rattle.record.specs.Calls.{state-of, Runs};
 ghost use Rattle.console.specs.Session as definition;
-ghost use Rattle.console.specs.Calls.{Starts, Begins, Says, Known, Roomy};
+ghost use Rattle.console.specs.Calls.{Starts, Begins, AnswersLine, Known, Answerable};
 
 // "`t` (timeout), `p` (prompt)": the letter and its line feed.
 fn is_letter(letter: u8, s: &[u8]) -> bool
@@ -85,9 +85,8 @@ pub fn answer_known(
     room: &mut [u8],
     messages: &mut [u8],
 ) -> Answered
-    requires { ⌜ Known known n (now terms) (now orders) ⌝ }
-    requires { ⌜ Roomy (now room) (now messages) ⌝ }
-    ensures { λ r. ⌜ Says n (now (line .entry)) (now (terms .entry)) (now (orders .entry)) (now (room .entry)) r
+    requires { ⌜ Answerable known n (now terms) (now orders) (now room) (now messages) ⌝ }
+    ensures { λ r. ⌜ AnswersLine n (now (line .entry)) (now (terms .entry)) (now (orders .entry)) (now (room .entry)) r
         (now (terms .exit)) (now (orders .exit)) (now (room .exit)) ⌝ }
     ensures { λ r. ⌜ Known known (r .state) (now (terms .exit)) (now (orders .exit)) ⌝ }
 {
@@ -117,7 +116,7 @@ pub fn answer(
     orders: &mut [u64; Record::LOG],
     room: &mut [u8],
 ) -> Answered
-    ensures { λ r. ⌜ Says n (now (line .entry)) (now (terms .entry)) (now (orders .entry)) (now (room .entry)) r
+    ensures { λ r. ⌜ AnswersLine n (now (line .entry)) (now (terms .entry)) (now (orders .entry)) (now (room .entry)) r
         (now (terms .exit)) (now (orders .exit)) (now (room .exit)) ⌝ }
 {
     if room.len() < Answered::LONGEST {

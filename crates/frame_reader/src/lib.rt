@@ -12,7 +12,6 @@ ghost use mathlib.Core.Bool.{true};
 ghost use Prim.Native.Nat.{_+_, _*_, _≤_, _<_};
 ghost use lib.ListN.{getD};
 ghost use Rattle.digits.specs.Digits.{field, run};
-ghost use Rattle.frames.specs.Limits.{entry-limit};
 ghost use Rattle.frames.specs.Fields.{no-entry, places, fields-of, no-fields, answer};
 ghost use Rattle.frames.specs.Reading as reading;
 ghost use Rattle.frame_reader.specs.Known.{LineOf, FixedOf, KindOf, EntriesIn, EntryIn, is-long};

@@ -4,10 +4,10 @@ use record::Record;
 ghost use Prim.Native.Nat.{_≤_};
 ghost use lib.ListN.{length};
 
-// What came of the lines of a block: the next box, the bytes taken, and whether all could be printed.
+// What came of the lines of a block: the next box, the bytes consumed, and whether all could be printed.
 struct Block {
     state: Record,
-    taken: usize,
+    consumed: usize,
     printed: bool,
 }
 
@@ -19,25 +19,25 @@ fn answer_all(
     orders: &mut [u64; Record::LOG],
     output: &mut [u8],
 ) -> Block
-    ensures { λ r. ⌜ r .taken ≤ length (now (bytes .entry)) ⌝ }
+    ensures { λ r. ⌜ r .consumed ≤ length (now (bytes .entry)) ⌝ }
 {
     let mut state = n;
     let mut at = 0;
     loop {
         let done = console::answer_lines(state, &bytes[at..], terms, orders, output);
-        if done.taken == 0 {
+        if done.consumed == 0 {
             return Block {
                 state,
-                taken: at,
+                consumed: at,
                 printed: true,
             };
         }
         state = done.state;
-        at += done.taken;
+        at += done.consumed;
         if !io::write_all(STDOUT_FILENO, &output[..done.bytes]) {
             return Block {
                 state,
-                taken: at,
+                consumed: at,
                 printed: false,
             };
         }
@@ -67,7 +67,7 @@ fn later_lines(
             return;
         }
         state = block.state;
-        let left = reader::keep(input, at + block.taken, held);
+        let left = reader::keep(input, at + block.consumed, held);
         let kept = reader::shorten(&input[..], left);
         held = reader::more(input, kept);
         if held == kept {

@@ -25,8 +25,8 @@ unfoldable pub numbered : ℕ → ℕ → List ℕ
 numbered n behind = decimal n ++ (behind ∷ [])
 
 -- "`bytes term vote length` on one line"
-unfoldable pub first-shown : (bytes term vote length : ℕ) → List ℕ
-first-shown bytes term vote length = numbered bytes space ++ numbered term space ++ numbered vote space ++ numbered length line-feed
+unfoldable pub first-shown : (bytes term vote log-length : ℕ) → List ℕ
+first-shown bytes term vote log-length = numbered bytes space ++ numbered term space ++ numbered vote space ++ numbered log-length line-feed
 
 -- "then each log entry as its 24 digits on a line of its own"
 unfoldable pub entry-shown : Entry → List ℕ

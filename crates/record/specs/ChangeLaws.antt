@@ -14,7 +14,7 @@ use Rattle.frames.specs.Fields.{no-entry}
 use Rattle.raft.specs.Record.{State, leader, is-other, term-at}
 use Rattle.raft.specs.Majority.{bit, majority}
 use Rattle.raft.specs.Commit.{settled, settle, matches, matching, is-matched}
-use Rattle.raft.specs.CommitLaws.{larger-matched, largest-matched, largest-low, settled-quick, Ranged, ranged}
+use Rattle.raft.specs.CommitLaws.{largest-matched, largest-low, settled-quick, Ranged, ranged}
 use Rattle.raft.specs.Order.{ordered}
 use Rattle.raft.specs.RecordLaws.{facts-good}
 use Rattle.raft.specs.StepLaws.{good-ordered}

@@ -8,7 +8,7 @@ use lib.Dec.{eqb, ltb, leb}
 use lib.ListN.{length, getD}
 use borrow.Author.Tests.{le-leb, lt-leb}
 use Rattle.digits.specs.Tests.{and-left}
-use Rattle.frames.specs.Limits.{boxes, IsBox, masks, log-limit}
+use Rattle.frames.specs.Limits.{IsBox, masks, log-limit}
 use Rattle.frames.specs.Rules.{is-box, follows, in-order}
 use Rattle.record.specs.declared.Record.{Record}
 use Rattle.raft.specs.Majority.{holds}

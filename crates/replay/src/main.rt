@@ -6,6 +6,7 @@ ghost use mathlib.Core.Path.{_≡_};
 ghost use lib.ListN.{length};
 ghost use Rattle.frames.specs.Limits.{log-limit};
 ghost use Rattle.printing.specs.Putting.{shown-most};
+ghost use Rattle.replay.specs.Required.{Lent, Continues, Showable};
 
 // What the lines behind the head came to: 0, or 10 and how many were good before; the record, and their bytes.
 struct Ended {
@@ -34,8 +35,7 @@ fn later_lines(
     terms: &mut [u32; Record::LOG],
     orders: &mut [u64; Record::LOG],
 ) -> Ended
-    requires { ⌜ filled ≤ length (now input) ⌝ }
-    requires { ⌜ n .last ≤ log-limit ⌝ }
+    requires { ⌜ Continues n (now input) filled ⌝ }
     ensures { λ r. ⌜ r .state .last ≤ log-limit ⌝ }
 {
     let mut state = n;
@@ -80,8 +80,7 @@ fn show(
     orders: &[u64; Record::LOG],
     output: &mut [u8],
 )
-    requires { ⌜ n .last ≤ log-limit ⌝ }
-    requires { ⌜ shown-most ≤ length (now output) ⌝ }
+    requires { ⌜ Showable n (now output) ⌝ }
 {
     let text = printing::show(
         n,
@@ -95,8 +94,7 @@ fn show(
 
 // The journal behind the first line.
 fn open(me: u8, input: &mut [u8], filled: usize, output: &mut [u8])
-    requires { ⌜ filled ≤ length (now input) ⌝ }
-    requires { ⌜ shown-most ≤ length (now output) ⌝ }
+    requires { ⌜ Lent (now input) filled (now output) ⌝ }
 {
     let head = reader::whole_line(input, filled);
     let opened = opening::replay_head(me, &input[..head.end]);

@@ -1,4 +1,4 @@
--- Each turn takes a line; what is taken never passes the bytes.
+-- Each turn takes a line; what is consumed never passes the bytes.
 use borrow.Author.Needs.{needs}
 use native.Mathlib.Omega.{arith}
 use Prim.Native.Nat.{ℕ, _-_, _≤_}
@@ -47,7 +47,7 @@ add-at c =
     let bytes = entered .args .bytes .now in
     let at = at-loop .loop .at in
     let part = length-take (length bytes - at) (drop at bytes) in
-    omega (arith, at-answer-lines .answer-lines .ensures .1 .taken, part, length-drop at bytes, at-loop .loop .inv .inside, entered .good)
+    omega (arith, at-answer-lines .answer-lines .ensures .1 .consumed, part, length-drop at bytes, at-loop .loop .inv .inside, entered .good)
 
 slice-reshare-prefix-write-all : tie.Need-slice-reshare-prefix-write-all Inv-loop μ-loop
 slice-reshare-prefix-write-all c = search needs

@@ -1,4 +1,4 @@
--- What is held never passes the block, nor what is taken what is held.
+-- What is held never passes the block, nor what is consumed what is held.
 use borrow.Author.Needs.{needs}
 use native.Mathlib.Omega.{arith}
 use Prim.Native.Nat.{ℕ, _-_, _≤_}

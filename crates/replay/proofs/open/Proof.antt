@@ -44,7 +44,10 @@ later-lines-requires c κs =
     let head = take (line .result .end) (line .last .0) in
     let last = ap (λ (r : Replayed). r .state .last) (at-head .replay-head .ensures) in
     let held = at-keep .keep in
-    (omega (arith, held .ensures .0, held .kept .0, line .ensures .1 .0, line .kept .0), omega (arith, last, heading-fits (entered .args .me) head))
+    record {
+      held = omega (arith, held .ensures .0, held .kept .0, line .ensures .1 .0, line .kept .0);
+      last = omega (arith, last, heading-fits (entered .args .me) head);
+    }
 
 bad-line-requires : tie.Need-bad-line-requires
 bad-line-requires c κs = search needs
@@ -63,7 +66,7 @@ show-requires : tie.Need-show-requires
 show-requires c κs =
     let at-later-lines = c .before .before .before .before .before .before .before .before in
     let entered = at-later-lines .before .before .before .before .before .before .before .before .before .before .before .before .before .before .before .before .before .before .before in
-    (at-later-lines .later-lines .ensures, entered .pre .1)
+    record { last = at-later-lines .later-lines .ensures; room = entered .pre .room }
 
 same-length-3 : tie.Need-same-length-3
 same-length-3 c =

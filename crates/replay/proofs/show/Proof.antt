@@ -18,7 +18,7 @@ slice-aggregate-write-all : tie.Need-slice-aggregate-write-all
 slice-aggregate-write-all c =
     let show = c .before .before .before .show in
     let entered = c .before .before .before .before .before .before .before .before .before in
-    simp length-take (omega (arith, show .ensures .1, show .kept .1 .1 .1 .1 .0, entered .pre .1))
+    simp length-take (omega (arith, show .ensures .1, show .kept .1 .1 .1 .1 .0, entered .pre .room))
 
 write-all-requires : tie.Need-write-all-requires
 write-all-requires c κs = search needs

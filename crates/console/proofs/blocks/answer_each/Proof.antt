@@ -26,7 +26,7 @@ abbrev μ-loop : tie.MeasureT-loop
 loop-holds : tie.Need-loop-holds Inv-loop μ-loop
 loop-holds c =
     let entered = c .before .before .before .before .before in
-    record { reached = reached-first (entered .pre .0); aside = refl }
+    record { reached = reached-first (entered .pre .knows); aside = refl }
 
 line-end-requires : tie.Need-line-end-requires Inv-loop μ-loop
 line-end-requires c κs = c .loop .inv .reached .inside
@@ -55,7 +55,7 @@ returns c =
     let at-line-end = c .before in
     let at-loop = at-line-end .before in
     let here = at-loop .loop .inv .reached in
-    (block-stops here (at-line-end .line-end .ensures) (c .if1 .taken), record { taken = here .inside; printed = omega (arith, here .within, here .long) })
+    (block-stops here (at-line-end .line-end .ensures) (c .if1 .taken), record { consumed = here .inside; printed = omega (arith, here .within, here .long) })
 
 sub-answer-known : tie.Need-sub-answer-known Inv-loop μ-loop
 sub-answer-known c = search needs
@@ -85,7 +85,8 @@ answer-known-requires c κs =
     let at-loop = at-line-end .before in
     let entered = at-loop .before .before .before .before .before .before in
     let here = at-loop .loop .inv .reached in
-    (here .knows, record { answers = rest-wide here (at-line-end .line-end .ensures) (at-if1 .if1 .left); aside = omega (arith, entered .pre .1, at-loop .loop .inv .aside) })
+    let wide = rest-wide here (at-line-end .line-end .ensures) (at-if1 .if1 .left) in
+    record { knows = here .knows; roomy = record { answers = wide; aside = omega (arith, entered .pre .aside, at-loop .loop .inv .aside) } }
 
 add-to : tie.Need-add-to Inv-loop μ-loop
 add-to c =

@@ -14,7 +14,7 @@ answer-each-requires c κs =
     let at-is-good = c .before .before .before .before in
     let entered = at-is-good .before .before .before .before .before in
     let known = at-is-good .is-good .ensures (entered .args .orders .now) in
-    (record { terms-long = search needs; orders-long = search needs; is = known }, search needs)
+    record { knows = record { terms-long = search needs; orders-long = search needs; is = known }; aside = search needs }
 
 same-length : tie.Need-same-length
 same-length c = search needs

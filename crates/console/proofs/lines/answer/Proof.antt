@@ -1,14 +1,14 @@
 -- Too little room, or the answer at a record that is looked at once.
 use borrow.Author.Needs.{needs}
 use native.Mathlib.Omega.{arith}
-use Rattle.console.specs.SayingLaws.{said-short}
+use Rattle.console.specs.AnswerLaws.{line-short}
 use Rattle.console.proofs.lines.answer.Statement.{statement}
 use Rattle.console.proofs.lines.answer.Tie as tie
 
 returns : tie.Need-returns
 returns c =
     let entered = c .before .before .before in
-    said-short (entered .args .line .now) (c .if1 .taken)
+    line-short (entered .args .line .now) (c .if1 .taken)
 
 is-good-requires : tie.Need-is-good-requires
 is-good-requires c κs = search needs
@@ -22,7 +22,10 @@ answer-known-requires c κs =
     let at-if1 = at-is-good .before .before .before in
     let entered = at-if1 .before .before .before in
     let known = at-is-good .is-good .ensures (entered .args .orders .now) in
-    (record { terms-long = search needs; orders-long = search needs; is = known }, record { answers = omega (arith, at-if1 .if1 .left); aside = search needs })
+    record {
+      knows = record { terms-long = search needs; orders-long = search needs; is = known };
+      roomy = record { answers = omega (arith, at-if1 .if1 .left); aside = search needs };
+    }
 
 same-length : tie.Need-same-length
 same-length c = search needs

@@ -1,8 +1,8 @@
--- The journal line at the start, the messages behind it (`said-done`); or the line of the refusal (`said-refused`).
+-- The journal line at the start, the messages behind it (`line-done`); or the line of the refusal (`line-refused`).
 use borrow.Author.Needs.{needs}
 use native.Mathlib.Omega.{arith}
 use lib.ListN.{length-take}
-use Rattle.console.specs.SayingLaws.{step-sizes, said-done, said-refused}
+use Rattle.console.specs.AnswerLaws.{step-sizes, line-done, line-refused}
 use Rattle.console.proofs.lines.answer_known.Statement.{statement}
 use Rattle.console.proofs.lines.answer_known.Tie as tie
 
@@ -13,32 +13,28 @@ slice-reshare-prefix-put : tie.Need-slice-reshare-prefix-put
 slice-reshare-prefix-put c =
     let at-step = c .before .before .before .before .before .before .before .before .before .before .before .before in
     let entered = at-step .before .before .before .before .before .before .before .before .before .before in
-    let (knows, roomy) = entered .pre in
-    let sizes = step-sizes (entered .args .line .now) knows roomy (at-step .step .ensures) in
-    omega (arith, sizes .sent, at-step .step .kept .1 .1 .1 .1 .1 .1 .0, roomy .aside)
+    let sizes = step-sizes (entered .args .line .now) (entered .pre .knows) (entered .pre .roomy) (at-step .step .ensures) in
+    omega (arith, sizes .sent, at-step .step .kept .1 .1 .1 .1 .1 .1 .0, entered .pre .roomy .aside)
 
 slice-aggregate-put : tie.Need-slice-aggregate-put
 slice-aggregate-put c =
     let at-step = c .before .before .before .before .before .before .before .before .before .before .before .before .before in
     let entered = at-step .before .before .before .before .before .before .before .before .before .before in
-    let (knows, roomy) = entered .pre in
-    let sizes = step-sizes (entered .args .line .now) knows roomy (at-step .step .ensures) in
-    simp length-take (omega (arith, sizes .sent, at-step .step .kept .1 .1 .1 .1 .1 .1 .0, roomy .aside))
+    let sizes = step-sizes (entered .args .line .now) (entered .pre .knows) (entered .pre .roomy) (at-step .step .ensures) in
+    simp length-take (omega (arith, sizes .sent, at-step .step .kept .1 .1 .1 .1 .1 .1 .0, entered .pre .roomy .aside))
 
 put-requires : tie.Need-put-requires
 put-requires c κs =
     let at-step = c .before .before .before .before .before .before .before .before .before .before .before .before .before in
     let entered = at-step .before .before .before .before .before .before .before .before .before .before in
-    let (knows, roomy) = entered .pre in
-    let sizes = step-sizes (entered .args .line .now) knows roomy (at-step .step .ensures) in
-    simp length-take (omega (arith, sizes .line, sizes .sent, at-step .step .kept .1 .1 .1 .1 .1 .0, roomy .answers))
+    let sizes = step-sizes (entered .args .line .now) (entered .pre .knows) (entered .pre .roomy) (at-step .step .ensures) in
+    simp length-take (omega (arith, sizes .line, sizes .sent, at-step .step .kept .1 .1 .1 .1 .1 .0, entered .pre .roomy .answers))
 
 add-t25 : tie.Need-add-t25
 add-t25 c =
     let at-step = c .before .before .before .before .before .before .before .before .before .before .before .before .before .before .before .before .before in
     let entered = at-step .before .before .before .before .before .before .before .before .before .before in
-    let (knows, roomy) = entered .pre in
-    let sizes = step-sizes (entered .args .line .now) knows roomy (at-step .step .ensures) in
+    let sizes = step-sizes (entered .args .line .now) (entered .pre .knows) (entered .pre .roomy) (at-step .step .ensures) in
     omega (arith, sizes .line, sizes .sent)
 
 same-length : tie.Need-same-length
@@ -59,15 +55,13 @@ returns c =
     let at-if1 = at-put .before .before .before .before in
     let at-step = at-if1 .before .before .before .before .before .before .before .before .before .before in
     let entered = at-step .before .before .before .before .before .before .before .before .before .before in
-    let (knows, roomy) = entered .pre in
-    said-done (entered .args .line .now) knows roomy (at-step .step .ensures) (at-if1 .if1 .taken) (at-put .put .ensures)
+    line-done (entered .args .line .now) (entered .pre .knows) (entered .pre .roomy) (at-step .step .ensures) (at-if1 .if1 .taken) (at-put .put .ensures)
 
 put-refusal-requires : tie.Need-put-refusal-requires
 put-refusal-requires c κs =
     let at-step = c .before .before .before .before .before .before .before .before .before .before .before in
     let entered = at-step .before .before .before .before .before .before .before .before .before .before in
-    let roomy = entered .pre .1 in
-    omega (arith, at-step .step .kept .1 .1 .1 .1 .1 .0, roomy .answers)
+    omega (arith, at-step .step .kept .1 .1 .1 .1 .1 .0, entered .pre .roomy .answers)
 
 same-length-5 : tie.Need-same-length-5
 same-length-5 c = search needs
@@ -87,8 +81,7 @@ returns-2 c =
     let at-if1 = at-put-refusal .before .before in
     let at-step = at-if1 .before .before .before .before .before .before .before .before .before .before in
     let entered = at-step .before .before .before .before .before .before .before .before .before .before in
-    let (knows, roomy) = entered .pre in
-    said-refused (entered .args .line .now) knows roomy (at-step .step .ensures) (at-if1 .if1 .left) (at-put-refusal .put-refusal .ensures)
+    line-refused (entered .args .line .now) (entered .pre .knows) (entered .pre .roomy) (at-step .step .ensures) (at-if1 .if1 .left) (at-put-refusal .put-refusal .ensures)
 
 pub answer-known-spec : {M : Type 1} → statement M
 answer-known-spec =

@@ -5,7 +5,7 @@ use borrow.Author.Tests.{not-true, not-false}
 use Rattle.raft.specs.Event.{times-out, takes-order, is-prompted, receives}
 use Rattle.console.specs.LineLaws.{asks-timeout, asks-prompt, asks-order, asks-receive}
 use Rattle.console.specs.GoodLaws.{ready}
-use Rattle.console.specs.SayingLaws.{bad-left, event-left}
+use Rattle.console.specs.AnswerLaws.{bad-left, event-left}
 use Rattle.console.proofs.lines.step.Statement.{statement}
 use Rattle.console.proofs.lines.step.Tie as tie
 

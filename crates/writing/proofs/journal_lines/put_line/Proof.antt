@@ -2,12 +2,12 @@
 use borrow.Author.Needs.{needs}
 use native.Mathlib.Omega.{arith}
 use mathlib.Core.List.{[], _∷_}
-use Prim.Native.Nat.{ℕ, _+_, _-_, _*_, _%_}
-use mathlib.Core.Path.{_≡_, ap, sym, _∙_}
+use Prim.Native.Nat.{ℕ, _-_, _%_}
+use mathlib.Core.Path.{_≡_, ap, _∙_}
 use lib.ListN.{length}
 use Rattle.digits.specs.Room.{over}
 use Rattle.frames.specs.Message.{number, entry-fields}
-use Rattle.frames.specs.WritingLaws.{chars, put-more, put-ended}
+use Rattle.frames.specs.WritingLaws.{put-more, put-ended}
 use Rattle.raft.specs.Journal.{line-text}
 use Rattle.raft.specs.Lent.{entries-of}
 use Rattle.raft.specs.LentLaws.{length-entries-of}

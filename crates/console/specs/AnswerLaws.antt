@@ -24,7 +24,7 @@ use Rattle.record.specs.SizeLaws.{over-next}
 use Rattle.record.specs.Calls.{state-of, record-of, Called, untouched, fit, written, run, Runs, Ready}
 use Rattle.console.specs.Session.{event-of, outcome-of, printed}
 use Rattle.printing.specs.Text.{refusal-line}
-use Rattle.console.specs.Calls.{longest, said, saying, Says, Known, Roomy}
+use Rattle.console.specs.Calls.{longest, outcome-answer, line-answer, AnswersLine, Known, Roomy}
 use Rattle.printing.specs.Putting.{Puts}
 use Rattle.printing.specs.TextLaws.{taken-back}
 use Rattle.console.specs.LineLaws.{outcome-step, not-good}
@@ -111,17 +111,17 @@ module _ {known : Bool} (line : List ℕ) {b : Record} {terms orders room aside 
       go (refuse n) p = rw (refused-left n p) (record { line = omega arith; sent = omega arith })
 
   -- done: the journal line at the start, the messages behind it
-  pub said-done : c .answer .refusal ≡ 0 → {room' : List ℕ} → room' ≡ over (c .journal) (c .answer .line) (take (c .answer .sent) (c .messages))
-      → Says b line terms orders room (record { fits = true; state = c .answer .state; bytes = c .answer .line + c .answer .sent })
+  pub line-done : c .answer .refusal ≡ 0 → {room' : List ℕ} → room' ≡ over (c .journal) (c .answer .line) (take (c .answer .sent) (c .messages))
+      → AnswersLine b line terms orders room (record { fits = true; state = c .answer .state; bytes = c .answer .line + c .answer .sent })
       (c .terms) (c .orders) room'
       × Known known (c .answer .state) (c .terms) (c .orders)
-  unfolding saying said printed
-  said-done z {room'} r =
-      let said' = go (outcome-of line s) refl in
-      (said', known-stays line room knows (roomy .answers) said')
+  unfolding line-answer outcome-answer printed
+  line-done z {room'} r =
+      let answer' = go (outcome-of line s) refl in
+      (answer', known-stays line room knows (roomy .answers) answer')
     where
       go : (o : Outcome) → outcome-of line s ≡ o
-          → Says b line terms orders room (record { fits = true; state = c .answer .state; bytes = c .answer .line + c .answer .sent })
+          → AnswersLine b line terms orders room (record { fits = true; state = c .answer .state; bytes = c .answer .line + c .answer .sent })
           (c .terms) (c .orders) room'
       go (done t ms) p =
           let short = outcome-short line s t ms p in
@@ -139,24 +139,24 @@ module _ {known : Bool} (line : List ℕ) {b : Record} {terms orders room aside 
           absurd (omega (arith, number, z, at-least-one n (rw p at (outcome-numbered line s))))
 
   -- refused: the line of the refusal, and all else as it was
-  pub said-refused : (c .answer .refusal ≡ 0 → ⊥) → {room' : List ℕ} {bytes : ℕ} → Puts (c .journal) 0 (refusal-line (c .answer .refusal)) bytes room'
-      → Says b line terms orders room (record { fits = true; state = b; bytes = bytes }) (c .terms) (c .orders) room'
+  pub line-refused : (c .answer .refusal ≡ 0 → ⊥) → {room' : List ℕ} {bytes : ℕ} → Puts (c .journal) 0 (refusal-line (c .answer .refusal)) bytes room'
+      → AnswersLine b line terms orders room (record { fits = true; state = b; bytes = bytes }) (c .terms) (c .orders) room'
       × Known known b (c .terms) (c .orders)
-  unfolding saying said
-  said-refused z {room'} {bytes} r =
-      let said' = go (outcome-of line s) refl in
-      (said', known-stays line room knows (roomy .answers) said')
+  unfolding line-answer outcome-answer
+  line-refused z {room'} {bytes} r =
+      let answer' = go (outcome-of line s) refl in
+      (answer', known-stays line room knows (roomy .answers) answer')
     where
       long : bytes ≡ length (refusal-line (c .answer .refusal))
       long = omega (arith, r .behind)
 
       go : (o : Outcome) → outcome-of line s ≡ o
-          → Says b line terms orders room (record { fits = true; state = b; bytes = bytes }) (c .terms) (c .orders) room'
+          → AnswersLine b line terms orders room (record { fits = true; state = b; bytes = bytes }) (c .terms) (c .orders) room'
       go (done t ms) p = absurd (z (ap (λ (x : Called). x .answer .refusal) (done-left t ms p)))
       go (refuse n) p = rw (r .holds, long, refused-left n p, le-leb longest (length room) (roomy .answers), p)
 
 -- room that is too short for any answer
-pub said-short : (line : List ℕ) {b : Record} {terms orders room : List ℕ} → length room < longest
-    → Says b line terms orders room (record { fits = false; state = b; bytes = 0 }) terms orders room
-unfolding saying
-said-short line {room = room} h = rw (lt-leb longest (length room) h)
+pub line-short : (line : List ℕ) {b : Record} {terms orders room : List ℕ} → length room < longest
+    → AnswersLine b line terms orders room (record { fits = false; state = b; bytes = 0 }) terms orders room
+unfolding line-answer
+line-short line {room = room} h = rw (lt-leb longest (length room) h)

@@ -1,0 +1,2 @@
+-- What the functions of the program require.
+pub mod Required
