@@ -50,6 +50,11 @@ pub leader-writes : (c : Change) → c .behind .role ≡ leader → writes c ≡
 unfolding writes by-leader
 leader-writes c e = rw (eq-eqb (c .behind .role) leader e)
 
+-- What a move writes is what its box hands out, or nothing.
+pub writes-either : (P : List Entry → Type 0) (c : Change) → P (handed-out (c .behind)) → P [] → P (writes c)
+unfolding writes
+writes-either P c p q = by-test P (by-leader c) (handed-out (c .behind)) [] (λ e. p) (λ e. q)
+
 -- A move that is no leader's leaves the book.
 nothing-written : (c : Change) (log : List Entry) → (by-leader c ≡ true → ⊥) → log ≡ longer log (writes c)
 unfolding writes longer
@@ -65,8 +70,7 @@ Wrote rule h (c ∷ earlier) = Covered rule h (c .behind .term) (writes c) × Wr
 -- Where all that a box hands out is covered, so is what it writes;
 pub covered-writes : {rule : Rule} {h : History} (c : Change) → Covered rule h (c .behind .term) (handed-out (c .behind))
     → Covered rule h (c .behind .term) (writes c)
-unfolding writes
-covered-writes {rule} {h} c x = by-test (Covered rule h (c .behind .term)) (by-leader c) (handed-out (c .behind)) [] (λ e. x) (λ e. nothing refl)
+covered-writes {rule} {h} c x = writes-either (Covered rule h (c .behind .term)) c x (nothing refl)
 
 -- and it stays so.
 pub wrote-later : {rule : Rule} {h more : History} (cs : List Change) → Facts rule h → Later h more → Wrote rule h cs → Wrote rule more cs

@@ -21,7 +21,6 @@ use Rattle.raft.specs.VoteRequest.{voting}
 use Rattle.raft.specs.VoteAnswer.{adding}
 use Rattle.raft.specs.Append.{following, joining}
 use Rattle.raft.specs.AppendAnswer.{heard}
-use Rattle.raft.specs.CommitLaws.{by-test}
 use Rattle.raft.specs.ReceiveLaws.{taken-by}
 use Rattle.history.specs.Begins.{Begins}
 use Rattle.history.specs.BeginsLaws.{begins-self, begins-trans, begins-nothing, nothing-begins}
@@ -31,7 +30,7 @@ use Rattle.safety.specs.Disks.{Seat, Site, built, seated, Happens, Goes,
 use Rattle.safety.specs.Book.{Change, by-leader, writes, longer, book}
 use Rattle.safety.specs.Runs.{Runs, parks, sites, moved, moves-of, happened, happened-in}
 use Rattle.safety.specs.Demand3.{Demand3, park-safe, site-safe}
-use Rattle.safety.specs.BookLaws.{longer-either}
+use Rattle.safety.specs.BookLaws.{longer-either, writes-either}
 use Rattle.safety.specs.Endings.{Ending, rests, stands, leads-alone, takes-up, prompts, takes, votes, votes-not, wins, counts, declines, wants, joins, hears, hears-again, event-ending}
 use Rattle.safety.specs.ParkAccount.{fresh-hands, restarted-hands}
 use Rattle.safety.specs.SiteAccount.{site-accounts, opened-hands}
@@ -99,8 +98,7 @@ writes-leads P c none leads keeps = go (eqb (c .behind .role) leader) refl (eqb 
 
 -- What hands out nothing writes nothing.
 writes-nothing : (P : List Entry → Type 0) (c : Change) → handed-out (c .behind) ≡ [] → P [] → P (writes c)
-unfolding writes
-writes-nothing P c e none = by-test P (by-leader c) (handed-out (c .behind)) [] (λ y. rw e none) (λ y. none)
+writes-nothing P c e none = writes-either P c (rw e none) none
 
 -- ---- a park
 

@@ -1,5 +1,5 @@
--- Each run of a park is one of a site with its disks, for a journal always opens: the telling with disks leaves out nothing that Park allows.
--- Assumes nothing.
+-- Each run of a park is one of a site with its disks, for a journal always opens: the telling with disks leaves out nothing that Park allows. And a
+-- site's book is a beginning of its park's. Assumes nothing.
 use Prim.Native.Nat.{ℕ, _+_, _≤_}
 use native.Mathlib.Omega.{arith}
 use mathlib.Core.Path.{_≡_, refl, sym, ap, _∙_}
@@ -9,20 +9,26 @@ use mathlib.Core.Logic.{_⊎_, inl, inr}
 use lib.ListN.{length, take}
 use Rattle.digits.specs.Room.{over}
 use Rattle.frames.specs.Message.{Message}
-use Rattle.raft.specs.Record.{State, fresh, is-membership}
+use Rattle.raft.specs.Record.{State, fresh, handed-out, is-membership}
 use Rattle.raft.specs.Journal.{head, journaled}
 use Rattle.raft.specs.Outcome.{done}
 use Rattle.raft.specs.Event.{Event, step}
 use Rattle.journal.specs.LineSpelling.{head-nine}
 use Rattle.journal.specs.Opening.{restarted, opened, headless, opening}
 use Rattle.journal.specs.LifeLaws.{life-opens, life-fails}
+use Rattle.history.specs.Begins.{Begins}
+use Rattle.history.specs.BeginsLaws.{nothing-begins, begins-self, begins-trans}
 use Rattle.history.specs.Put.{put}
 use Rattle.history.specs.PutLaws.{put-same, put-other, put-all}
-use Rattle.safety.specs.Park.{Park, start, Comes, frames, after, steps, restarts, stays, moves, Reached}
+use Rattle.safety.specs.Park.{Park, start, Comes, frames, after, steps, restarts, stays, moves, run-both, Reached}
 use Rattle.safety.specs.Sent.{Among, wider, among-more}
 use Rattle.safety.specs.Proper.{event-steps}
 use Rattle.safety.specs.Disks.{Seat, Site, built, Started, written, seated, Happens, Goes}
-use Rattle.safety.specs.DisksLaws.{Stored, awaits, lives, torn-head, life-started, started-lives, none-awaits, built-mirrors, goes-on}
+use Rattle.safety.specs.Book.{writes, book}
+use Rattle.safety.specs.Runs.{moves-of, happened, happened-in}
+use Rattle.safety.specs.Demand3.{park-safe}
+use Rattle.safety.specs.BookLaws.{longer-either, writes-either}
+use Rattle.safety.specs.DisksLaws.{Stored, awaits, lives, torn-head, life-started, started-lives, none-awaits, Mirrors, built-mirrors, happens-on, goes-on}
 
 -- A site that has run, with the park's records, and all that was sent in the park.
 pub record Shown (mask : ℕ) (p : Park) : Type 0 where
@@ -122,3 +128,43 @@ pub torn-answered : (mask : ℕ) (a : Site) → Goes mask (built mask) a → (i 
 torn-answered mask a g i m z =
     let w = none-awaits (goes-on mask _ (built-mirrors mask) g .mirrors .stored i m) z in
     (torn-head i mask (a .seat i) w, w .untouched)
+
+-- ---- the two books
+
+-- The box to which something happened has the record that is told of it.
+happened-box : {mask : ℕ} {a b : Site} (v : Happens mask a b) → (i : ℕ) × (b .seat i .now ≡ happened v .behind)
+unfolding happened seated
+happened-box {a = a} (Happens.starts i m z) = (i, ap (λ y. y .now) (put-same (a .seat) i _))
+happened-box {a = a} (Happens.tears i m z k l) = (i, ap (λ y. y .now) (put-same (a .seat) i _))
+happened-box {a = a} (Happens.steps i m up e c t ms o) = (i, ap (λ y. y .now) (put-same (a .seat) i _))
+happened-box {a = a} (Happens.fails i m up e c t ms o k u n h) = (i, ap (λ y. y .now) (put-same (a .seat) i _))
+happened-box {a = a} (Happens.reopens i m u n h) = (i, ap (λ y. y .now) (put-same (a .seat) i _))
+happened-box {a = a} (Happens.trims i m k) = (i, ap (λ y. y .now) (put-same (a .seat) i _))
+
+-- A park's run as which a site's run stands, of whose book the site's is a beginning.
+pub record AsPark (mask : ℕ) {a : Site} (g : Goes mask (built mask) a) : Type 0 where
+  pub park : Park
+  pub reached : Reached mask park
+  pub mirrors : Mirrors mask a park
+  pub begins : Begins (book (happened-in g)) (book (moves-of reached))
+
+-- **Each run of a site is one of a park, record for record, and its book is a beginning of the park's:** that one has also what a leader committed by a
+-- step whose line was whole when power failed.
+pub as-park : (mask : ℕ) {a : Site} (g : Goes mask (built mask) a) → AsPark mask g
+unfolding happened-in moves-of book
+as-park mask Goes.stays = record { park = start mask; reached = stays; mirrors = built-mirrors mask; begins = begins-self [] }
+as-park mask (Goes.goes {b = a} {c = b} g v) =
+    let x = as-park mask g in
+    let y = happens-on mask a b (x .park) (x .mirrors) v in
+    let told = happened-box v in
+    let now = run-both (x .reached) (y .run) in
+    let handed : Begins (handed-out (happened v .behind)) (book (moves-of now)) =
+    rw (← told .1, y .mirrors .same (told .0)) (park-safe mask .in-book (y .park) now (told .0)) in
+    record {
+      park = y .park;
+      reached = now;
+      mirrors = y .mirrors;
+      begins = longer-either (λ log. Begins log (book (moves-of now))) (book (happened-in g)) (writes (happened v))
+          (begins-trans (x .begins) (park-safe mask .book-grows (x .park) (y .park) (x .reached) (y .run)))
+          (writes-either (λ log. Begins log (book (moves-of now))) (happened v) handed (nothing-begins _));
+    }

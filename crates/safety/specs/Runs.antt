@@ -47,7 +47,7 @@ parks mask =
 -- ---- a site
 
 -- What happened to a box's record: a step that power cut short is the opening that follows it, whose commit is 0. (Where its line was whole the park
--- has a step and a restart: there its commit counts.)
+-- has a step and a restart, and its commit counts: so a site's book is a beginning of its park's, `ParkOnDisk.as-park`.)
 unfoldable pub happened : {mask : ℕ} {a b : Site} → Happens mask a b → Change
 happened {mask} {a = a} (Happens.starts i m z) = record { before = a .seat i .now; behind = fresh i mask }
 happened {mask} {a = a} (Happens.tears i m z k l) = record { before = a .seat i .now; behind = fresh i mask }
