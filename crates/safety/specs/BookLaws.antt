@@ -55,12 +55,20 @@ pub writes-either : (P : List Entry → Type 0) (c : Change) → P (handed-out (
 unfolding writes
 writes-either P c p q = by-test P (by-leader c) (handed-out (c .behind)) [] (λ e. p) (λ e. q)
 
--- A move that is no leader's leaves the book.
+-- Nothing more is not longer,
+longer-nothing : (log : List Entry) → log ≡ longer log []
+unfolding longer
+longer-nothing log = by-test (λ x. log ≡ x) (ltb (length log) 0) [] log (λ h. absurd (omega (arith, ltb-true (length log) 0 h))) (λ h. refl)
+
+-- so a move that is no leader's leaves the book,
 nothing-written : (c : Change) (log : List Entry) → (by-leader c ≡ true → ⊥) → log ≡ longer log (writes c)
-unfolding writes longer
+unfolding writes
 nothing-written c log none =
-    by-test (λ x. log ≡ cond (ltb (length log) (length x)) x log) (by-leader c) (handed-out (c .behind)) [] (λ e. absurd (none e))
-    (λ e. by-test (λ x. log ≡ x) (ltb (length log) 0) [] log (λ h. absurd (omega (arith, ltb-true (length log) 0 h))) (λ h. refl))
+    by-test (λ x. log ≡ longer log x) (by-leader c) (handed-out (c .behind)) [] (λ e. absurd (none e)) (λ e. longer-nothing log)
+
+-- and so does one behind which nothing is handed out.
+pub book-silent : (c : Change) (log : List Entry) → handed-out (c .behind) ≡ [] → log ≡ longer log (writes c)
+book-silent c log e = writes-either (λ x. log ≡ longer log x) c (rw e (longer-nothing log)) (longer-nothing log)
 
 -- What moves have written is covered in the history, each by a term up to its own.
 unfoldable pub Wrote : Rule → History → List Change → Type 0
