@@ -1,8 +1,8 @@
 -- The laws of the book: where all that was written is covered by a history, it is one book, which only grows. Assumes nothing.
-use Prim.Native.Nat.{ℕ, suc, _≤_}
+use Prim.Native.Nat.{ℕ, suc}
 use native.Mathlib.Omega.{arith}
 use mathlib.Core.Path.{_≡_, refl, ap, _∙_}
-use mathlib.Core.Bool.{Bool, true, false, cond}
+use mathlib.Core.Bool.{true, false}
 use mathlib.Core.List.{List, [], _∷_, List·Memᴰ·head, List·Memᴰ·tail}
 use mathlib.Core.Logic.{inl, inr}
 use lib.Dec.{ltb}
@@ -12,7 +12,7 @@ use Rattle.frames.specs.declared.Entry.{Entry}
 use Rattle.raft.specs.Record.{leader, handed-out}
 use Rattle.raft.specs.CommitLaws.{by-test}
 use Rattle.history.specs.Begins.{Begins, OneBegins}
-use Rattle.history.specs.BeginsLaws.{begins-long, begins-self, begins-trans, begins-whole, nothing-begins}
+use Rattle.history.specs.BeginsLaws.{begins-long, begins-self, begins-trans, begins-whole}
 use Rattle.history.specs.InForce.{Rule}
 use Rattle.history.specs.History.{History, Facts}
 use Rattle.history.specs.Book.{Covered, nothing, covered-less, one-book}

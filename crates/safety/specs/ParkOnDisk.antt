@@ -1,6 +1,6 @@
 -- Each run of a park is one of a site with its disks, for a journal always opens: the telling with disks leaves out nothing that Park allows. And each
 -- run of a site is one of a park, of whose book its own is a beginning. Assumes nothing.
-use Prim.Native.Nat.{ℕ, _+_, _≤_}
+use Prim.Native.Nat.{ℕ, _+_}
 use native.Mathlib.Omega.{arith}
 use mathlib.Core.Path.{_≡_, refl, sym, ap, _∙_}
 use mathlib.Core.Bool.{true}
