@@ -4,7 +4,7 @@
 -- second, and so on. Assumes nothing.
 use mathlib.Core.Path.{_≡_, sym, ap, _∙_}
 use denote.Ref.{now}
-use Rattle.console.specs.Calls.{Beginning, Saying, Telling}
+use Rattle.console.specs.Calls.{Beginning, AfterLine, AfterLines}
 use Rattle.console.proofs.lines.begin.Reads as begin
 use Rattle.console.proofs.lines.answer.Reads as answer
 use Rattle.console.proofs.blocks.answer_lines.Reads as answer-lines
@@ -30,10 +30,10 @@ pub answer-one-answer : (κs : _) (a : _) (r r' : _) (s s' : _) → answer.Post 
     × (now (s .1 .1 .1 .1 .0) ≡ now (s' .1 .1 .1 .1 .0))
 answer-one-answer κs a r r' s s' p q =
     let same = p ∙ sym q in (
-      ap (λ (x : Saying). x .answer) same,
-      ap (λ (x : Saying). x .terms) same,
-      ap (λ (x : Saying). x .orders) same,
-      ap (λ (x : Saying). x .room) same,
+      ap (λ (x : AfterLine). x .answer) same,
+      ap (λ (x : AfterLine). x .terms) same,
+      ap (λ (x : AfterLine). x .orders) same,
+      ap (λ (x : AfterLine). x .room) same,
     )
 
 -- ---- `answer_lines`: the same. (Its other promise is a bound on the answer.)
@@ -46,8 +46,8 @@ pub answer-lines-one-answer : (κs : _) (a : _) (r r' : _) (s s' : _) → answer
     × (now (s .1 .1 .1 .1 .0) ≡ now (s' .1 .1 .1 .1 .0))
 answer-lines-one-answer κs a r r' s s' p q =
     let same = p .0 ∙ sym (q .0) in (
-      ap (λ (x : Telling). x .answer) same,
-      ap (λ (x : Telling). x .terms) same,
-      ap (λ (x : Telling). x .orders) same,
-      ap (λ (x : Telling). x .room) same,
+      ap (λ (x : AfterLines). x .answer) same,
+      ap (λ (x : AfterLines). x .terms) same,
+      ap (λ (x : AfterLines). x .orders) same,
+      ap (λ (x : AfterLines). x .room) same,
     )

@@ -3,6 +3,7 @@ use frames::Entry;
 use record::Decision;
 use record::Record;
 use record::Send;
+use record::Sizes;
 use record::Step;
 use rules::term_at;
 use writing::append_size;
@@ -20,7 +21,7 @@ ghost use Rattle.record.specs.declared.Decision.{Decision};
 ghost use Rattle.record.specs.declared.Record.{Record};
 ghost use Rattle.record.specs.Calls.{state-of, Runs};
 ghost use Rattle.record.specs.Deciding.{messages-of, Aimed, decided, Sound, AddsNone};
-ghost use Rattle.record.specs.Sizes.{is-silent, line-bytes, line-size, sent-size, roomy, answered, Measurable, MayFit, MessagesFit};
+ghost use Rattle.record.specs.Sizes.{is-silent, line-bytes, line-size, sent-size, roomy, measured, Measurable, MayFit, MessagesFit};
 
 // Nothing happens: 01's number, and the record as it was.
 pub fn refused(n: Record, number: u8) -> Step
@@ -108,25 +109,32 @@ fn put_messages(messages: &mut [u8], send: Send, next: Record, terms: &[u32], or
     }
 }
 
-// A step's answer, known before anything is written: its number is the decision's own, or 5 where line or messages do not fit.
-fn answered(n: Record, d: Decision, journal: usize, messages: usize) -> Step
+// What is known before anything is written: the decision's own refusal, or 5 where line or messages do not fit, or how long they are.
+fn measured(n: Record, d: Decision, journal: usize, messages: usize) -> Sizes
     requires { ⌜ Measurable d ⌝ }
-    ensures { λ r. ⌜ r ≡ answered n d journal messages ⌝ }
+    ensures { λ r. ⌜ r ≡ measured n d journal messages ⌝ }
 {
-    let next = d.next;
-    let send = d.send;
     let refusal = d.refusal;
     if refusal != 0 {
-        return refused(n, refusal);
+        return Sizes {
+            refusal,
+            line: 0,
+            sent: 0,
+        };
     }
+    let next = d.next;
+    let send = d.send;
     let line = line_size(n, d);
     let sent = sent_size(send, next);
     if !fits(line, journal, sent, messages) {
-        return refused(n, 5);
+        return Sizes {
+            refusal: 5,
+            line: 0,
+            sent: 0,
+        };
     }
-    Step {
+    Sizes {
         refusal: 0,
-        state: next,
         line,
         sent,
     }
@@ -148,13 +156,18 @@ pub fn finish(
 {
     let next = d.next;
     let send = d.send;
-    let answer = answered(n, d, journal.len(), messages.len());
-    if answer.refusal != 0 {
-        return answer;
+    let sizes = measured(n, d, journal.len(), messages.len());
+    if sizes.refusal != 0 {
+        return refused(n, sizes.refusal);
     }
-    put_line(journal, answer.line, next, d.kept, terms, orders);
+    put_line(journal, sizes.line, next, d.kept, terms, orders);
     put_messages(messages, send, next, terms, orders);
-    answer
+    Step {
+        refusal: 0,
+        state: next,
+        line: sizes.line,
+        sent: sizes.sent,
+    }
 }
 
 // A step that may add some of the entries that were offered: they are stored once the step is sure.
@@ -174,9 +187,9 @@ pub fn finish_adding(
 {
     let next = d.next;
     let send = d.send;
-    let answer = answered(n, d, journal.len(), messages.len());
-    if answer.refusal != 0 {
-        return answer;
+    let sizes = measured(n, d, journal.len(), messages.len());
+    if sizes.refusal != 0 {
+        return refused(n, sizes.refusal);
     }
     let first = d.first as usize;
     rules::store(
@@ -187,7 +200,12 @@ pub fn finish_adding(
         first,
         d.count as usize,
     );
-    put_line(journal, answer.line, next, d.kept, &terms[..], &orders[..]);
+    put_line(journal, sizes.line, next, d.kept, &terms[..], &orders[..]);
     put_messages(messages, send, next, &terms[..], &orders[..]);
-    answer
+    Step {
+        refusal: 0,
+        state: next,
+        line: sizes.line,
+        sent: sizes.sent,
+    }
 }

@@ -9,7 +9,7 @@ use Rattle.frames.specs.Limits.{boxes, IsBox, entry-limit}
 use Rattle.record.specs.declared.Record.{Record}
 use Rattle.record.specs.declared.Send.{Send}
 use Rattle.record.specs.declared.Decision.{Decision}
-use Rattle.record.specs.declared.Step.{Step}
+use Rattle.record.specs.declared.Sizes.{Sizes}
 use Rattle.raft.specs.Record.{of-box, is-other}
 use Rattle.raft.specs.Journal.{line-text}
 use Rattle.record.specs.Calls.{entries-of}
@@ -137,15 +137,15 @@ pub record MessagesFit (send : Send) (b : Record) (terms orders room : List ℕ)
 unfoldable pub roomy : (line journal sent messages : ℕ) → Bool
 roomy line journal sent messages = leb line journal && leb sent messages
 
--- A step's answer is known before anything is written. The decision's own refusal, then 5: "the head, journal line or messages are longer than the room left";
--- with either the record stays as it was. Otherwise it is the next record, and how long line and messages are.
-unfoldable pub answered : Record → Decision → (journal messages : ℕ) → Step
-answered n d journal messages =
+-- What is known of a step before anything is written. The decision's own refusal, then 5: "the head, journal line or messages are longer than the room left";
+-- otherwise how long line and messages are.
+unfoldable pub measured : Record → Decision → (journal messages : ℕ) → Sizes
+measured n d journal messages =
     cond (eqb (d .refusal) 0)
     (cond (roomy (line-size n d) journal (sent-size (d .send) (d .next)) messages)
-    (record { refusal = 0; state = d .next; line = line-size n d; sent = sent-size (d .send) (d .next) })
-    (record { refusal = 5; state = n; line = 0; sent = 0 }))
-    (record { refusal = d .refusal; state = n; line = 0; sent = 0 })
+    (record { refusal = 0; line = line-size n d; sent = sent-size (d .send) (d .next) })
+    (record { refusal = 5; line = 0; sent = 0 }))
+    (record { refusal = d .refusal; line = 0; sent = 0 })
 
 -- A decision whose line and messages have a length.
 pub record Measurable (d : Decision) : Type 0 where

@@ -21,7 +21,7 @@ use Rattle.frames.specs.WritingLaws.{length-spell, chars-entries}
 use Rattle.record.specs.declared.Record.{Record}
 use Rattle.record.specs.declared.Send.{Send}
 use Rattle.record.specs.declared.Decision.{Decision}
-use Rattle.record.specs.declared.Step.{Step}
+use Rattle.record.specs.declared.Sizes.{Sizes}
 use Rattle.raft.specs.Record.{State, leader, is-other, is-progress, sends-to, good}
 use Rattle.raft.specs.RecordLaws.{Good, sent-facts}
 use Rattle.raft.specs.Sends.{texts}
@@ -30,7 +30,7 @@ use Rattle.raft.specs.Outcome.{Outcome, done, refuse}
 use Rattle.raft.specs.LentLaws.{length-entries-of, terms-are, orders-are, drop-entries, take-entries, stored-terms, stored-orders, stored-log, terms-long, orders-long}
 use Rattle.record.specs.Calls.{entries-of, terms-of, orders-of, with-entries, state-of, record-of, Called, untouched, fit, written, run, Runs}
 use Rattle.record.specs.Deciding.{messages-of, new-of, log-after, after, decided, Decides, Sound}
-use Rattle.record.specs.Sizes.{is-silent, line-bytes, line-size, sent-size, roomy, answered, Measurable, Sendable, Tellable, MayFit, MessagesFit}
+use Rattle.record.specs.Sizes.{is-silent, line-bytes, line-size, sent-size, roomy, measured, Measurable, Sendable, Tellable, MayFit, MessagesFit}
 use Rattle.record.specs.SizeLaws.{sent-long}
 
 -- ---- lengths
@@ -87,29 +87,29 @@ fits-both : (a b c d : ℕ) → roomy a b c d ≡ true → (a ≤ b) × (c ≤ d
 unfolding roomy
 fits-both a b c d both = (leb-true a b (and-left (leb a b) (leb c d) both), leb-true c d (and-right (leb a b) (leb c d) both))
 
--- An answer that refuses nothing: its decision refuses nothing either, it says how long line and messages are, and both fit.
-pub record Fitting (n : Record) (d : Decision) (journal messages : ℕ) (answer : Step) : Type 0 where
+-- A step that is not refused: its decision refuses nothing, its sizes are those of line and messages, and both fit.
+pub record Fitting (n : Record) (d : Decision) (journal messages : ℕ) (sizes : Sizes) : Type 0 where
   pub accepted : d .refusal ≡ 0
-  pub says : answer ≡ record { refusal = 0; state = d .next; line = line-size n d; sent = sent-size (d .send) (d .next) }
-  pub line : answer .line ≡ line-size n d
+  pub says : sizes ≡ record { refusal = 0; line = line-size n d; sent = sent-size (d .send) (d .next) }
+  pub line : sizes .line ≡ line-size n d
   pub line-fits : line-size n d ≤ journal
   pub sent-fits : sent-size (d .send) (d .next) ≤ messages
 
-pub fitting : (n : Record) (d : Decision) (journal messages : ℕ) {answer : Step} → answer ≡ answered n d journal messages → answer .refusal ≡ 0
-    → Fitting n d journal messages answer
-unfolding answered
-fitting n d journal messages {answer} e h =
+pub fitting : (n : Record) (d : Decision) (journal messages : ℕ) {sizes : Sizes} → sizes ≡ measured n d journal messages → sizes .refusal ≡ 0
+    → Fitting n d journal messages sizes
+unfolding measured
+fitting n d journal messages {sizes} e h =
     go (eqb (d .refusal) 0) refl (roomy (line-size n d) journal (sent-size (d .send) (d .next)) messages) refl
   where
-    number : {s : Step} → answer ≡ s → s .refusal ≡ 0
-    number f = sym (ap (λ (x : Step). x .refusal) f) ∙ h
+    number : {s : Sizes} → sizes ≡ s → s .refusal ≡ 0
+    number f = sym (ap (λ (x : Sizes). x .refusal) f) ∙ h
 
     go : (x : Bool) → eqb (d .refusal) 0 ≡ x → (y : Bool) → roomy (line-size n d) journal (sent-size (d .send) (d .next)) messages ≡ y
-        → Fitting n d journal messages answer
+        → Fitting n d journal messages sizes
     go true p true q =
         let room = fits-both (line-size n d) journal (sent-size (d .send) (d .next)) messages q in
         let says = rw (p, q) at e in
-        record { accepted = eqb-true (d .refusal) 0 p; says = says; line = ap (λ (x : Step). x .line) says; line-fits = room .0; sent-fits = room .1 }
+        record { accepted = eqb-true (d .refusal) 0 p; says = says; line = ap (λ (x : Sizes). x .line) says; line-fits = room .0; sent-fits = room .1 }
     go true p false q = absurd (omega (arith, number (rw (p, q) at e)))
     go false p y q = absurd (eqb-false (d .refusal) 0 p (number (rw p at e)))
 
@@ -218,24 +218,25 @@ module _ {n : Record} {d : Decision} {offered : List Entry} {terms orders : List
     short-left journal messages q = rw (comes-done, ← line-told, ← sent-told, q)
 
   -- what is refused leaves nothing
-  pub refused-left : (journal messages : List ℕ) {answer : Step} → answer ≡ answered n d (length journal) (length messages) → (answer .refusal ≡ 0 → ⊥)
-      → Runs (decided d offered terms orders) n terms orders journal messages answer terms orders journal messages
-  unfolding answered decided run
-  refused-left journal messages {answer} e h =
+  pub refused-left : (journal messages : List ℕ) {sizes : Sizes} → sizes ≡ measured n d (length journal) (length messages) → (sizes .refusal ≡ 0 → ⊥)
+      → Runs (decided d offered terms orders) n terms orders journal messages (record { refusal = sizes .refusal; state = n; line = 0; sent = 0 }) terms orders journal messages
+  unfolding measured decided run
+  refused-left journal messages {sizes} e h =
       go (eqb (d .refusal) 0) refl (roomy (line-size n d) (length journal) (sent-size (d .send) (d .next)) (length messages)) refl
     where
       go : (x : Bool) → eqb (d .refusal) 0 ≡ x
           → (y : Bool) → roomy (line-size n d) (length journal) (sent-size (d .send) (d .next)) (length messages) ≡ y
-          → Runs (decided d offered terms orders) n terms orders journal messages answer terms orders journal messages
-      go true p true q = absurd (h (ap (λ (x : Step). x .refusal) (rw (p, q) at e)))
+          → Runs (decided d offered terms orders) n terms orders journal messages (record { refusal = sizes .refusal; state = n; line = 0; sent = 0 }) terms orders journal messages
+      go true p true q = absurd (h (ap (λ (x : Sizes). x .refusal) (rw (p, q) at e)))
       go true p false q = rw (rw (p, q) at e) (short-left (eqb-true (d .refusal) 0 p) journal messages q)
       go false p y q = rw (rw p at e, p)
 
   -- what fits: the line, the messages, and the log with the new entries
-  fitting-left : (journal messages : List ℕ) {answer : Step} {journal' messages' : List ℕ} → Fitting n d (length journal) (length messages) answer
+  fitting-left : (journal messages : List ℕ) {sizes : Sizes} {journal' messages' : List ℕ} → Fitting n d (length journal) (length messages) sizes
       → journal' ≡ over journal 0 (line-bytes n d terms' orders')
       → messages' ≡ over messages 0 (texts (messages-of (d .send) (state-of (d .next) terms' orders')))
-      → Runs (decided d offered terms orders) n terms orders journal messages answer terms' orders' journal' messages'
+      → Runs (decided d offered terms orders) n terms orders journal messages (record { refusal = 0; state = d .next; line = sizes .line; sent = sizes .sent })
+      terms' orders' journal' messages'
   unfolding run written fit
   fitting-left journal messages f jo me =
       rw (
@@ -298,8 +299,8 @@ module _ {n : Record} {d : Decision} {offered : List Entry} {terms orders : List
 
   module _ {terms'' orders'' : List ℕ} (same-terms : terms'' ≡ terms') (same-orders : orders'' ≡ orders') where
     -- the line can be written,
-    pub lent-line : {journal : List ℕ} {messages : ℕ} {answer : Step} → Fitting n d (length journal) messages answer
-        → MayFit (answer .line) (d .next) (d .kept) terms'' orders'' journal
+    pub lent-line : {journal : List ℕ} {messages : ℕ} {sizes : Sizes} → Fitting n d (length journal) messages sizes
+        → MayFit (sizes .line) (d .next) (d .kept) terms'' orders'' journal
     lent-line f =
         record {
           tellable = rw (same-terms, same-orders) after-tellable;
@@ -307,15 +308,16 @@ module _ {n : Record} {d : Decision} {offered : List Entry} {terms orders : List
         }
 
     -- the messages too,
-    pub lent-messages : {journal : ℕ} {messages : List ℕ} {answer : Step} → Fitting n d journal (length messages) answer
+    pub lent-messages : {journal : ℕ} {messages : List ℕ} {sizes : Sizes} → Fitting n d journal (length messages) sizes
         → MessagesFit (d .send) (d .next) terms'' orders'' messages
     lent-messages f = record { aimed = k .aimed; sendable = rw (same-terms, same-orders) (after-sendable (f .accepted)); in-room = f .sent-fits }
 
     -- and that is what the outcome leaves
-    pub lent-left : (journal messages : List ℕ) {answer : Step} {journal' messages' : List ℕ} → Fitting n d (length journal) (length messages) answer
+    pub lent-left : (journal messages : List ℕ) {sizes : Sizes} {journal' messages' : List ℕ} → Fitting n d (length journal) (length messages) sizes
         → journal' ≡ over journal 0 (line-bytes n d terms'' orders'')
         → messages' ≡ over messages 0 (texts (messages-of (d .send) (state-of (d .next) terms'' orders'')))
-        → Runs (decided d offered terms orders) n terms orders journal messages answer terms'' orders'' journal' messages'
+        → Runs (decided d offered terms orders) n terms orders journal messages (record { refusal = 0; state = d .next; line = sizes .line; sent = sizes .sent })
+        terms'' orders'' journal' messages'
     lent-left journal messages f jo me =
         rw (same-terms, same-orders) (fitting-left journal messages f (rw (same-terms, same-orders) at jo) (rw (same-terms, same-orders) at me))
 

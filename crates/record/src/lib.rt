@@ -95,6 +95,13 @@ pub struct Decision {
     pub send: Send,
 }
 
+// What is known of a step before anything is written: 01's number, and how many bytes its journal line and its messages take.
+pub struct Sizes {
+    pub refusal: u8,
+    pub line: usize,
+    pub sent: usize,
+}
+
 // A step's answer: 01's number, the next record, and how many bytes of journal line and messages were written.
 pub struct Step {
     pub state: Record,

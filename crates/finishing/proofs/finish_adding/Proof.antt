@@ -7,15 +7,20 @@ use Rattle.record.specs.WrittenLaws.{fitting, measurable, refused-left, stored-
 use Rattle.finishing.proofs.finish_adding.Statement.{statement}
 use Rattle.finishing.proofs.finish_adding.Tie as tie
 
-answered-requires : tie.Need-answered-requires
-answered-requires c κs =
+measured-requires : tie.Need-measured-requires
+measured-requires c κs =
     let entered = c .before .before .before .before .before in measurable (entered .pre)
+
+refused-requires : tie.Need-refused-requires
+refused-requires c κs = search needs
 
 returns : tie.Need-returns
 returns c =
-    let at-answered = c .before .before in
-    let entered = at-answered .before .before .before .before .before .before in
-    refused-left (entered .pre) (entered .args .journal .now) (entered .args .messages .now) (at-answered .answered .ensures) (c .if1 .taken)
+    let at-if1 = c .before in
+    let at-measured = at-if1 .before .before in
+    let entered = at-measured .before .before .before .before .before .before in
+    rw (c .refused .ensures)
+    (refused-left (entered .pre) (entered .args .journal .now) (entered .args .messages .now) (at-measured .measured .ensures) (at-if1 .if1 .taken))
 
 cast-first : tie.Need-cast-first
 cast-first c = search needs
@@ -46,25 +51,25 @@ put-line-requires : tie.Need-put-line-requires
 put-line-requires c κs =
     let at-store = c .before .before .before .before .before .before .before in
     let at-if1 = at-store .before .before .before .before .before .before in
-    let at-answered = at-if1 .before .before in
-    let entered = at-answered .before .before .before .before .before .before in
+    let at-measured = at-if1 .before .before in
+    let entered = at-measured .before .before .before .before .before .before in
     let place : entered .args .d .kept - entered .args .d .first + entered .args .d .first ≡ entered .args .d .kept = omega (arith, entered .pre .decides .there) in
     let terms = stored-at (entered .pre) _ _ _ place (at-store .store .ensures .0) in
     let orders = stored-at (entered .pre) _ _ _ place (at-store .store .ensures .1) in
     lent-line (entered .pre) terms orders
-    (fitting (entered .args .n) (entered .args .d) _ _ (at-answered .answered .ensures) (omega (arith, at-if1 .if1 .left)))
+    (fitting (entered .args .n) (entered .args .d) _ _ (at-measured .measured .ensures) (omega (arith, at-if1 .if1 .left)))
 
 put-messages-requires : tie.Need-put-messages-requires
 put-messages-requires c κs =
     let at-store = c .before .before .before .before .before .before .before .before .before .before .before .before .before in
     let at-if1 = at-store .before .before .before .before .before .before in
-    let at-answered = at-if1 .before .before in
-    let entered = at-answered .before .before .before .before .before .before in
+    let at-measured = at-if1 .before .before in
+    let entered = at-measured .before .before .before .before .before .before in
     let place : entered .args .d .kept - entered .args .d .first + entered .args .d .first ≡ entered .args .d .kept = omega (arith, entered .pre .decides .there) in
     let terms = stored-at (entered .pre) _ _ _ place (at-store .store .ensures .0) in
     let orders = stored-at (entered .pre) _ _ _ place (at-store .store .ensures .1) in
     lent-messages (entered .pre) terms orders
-    (fitting (entered .args .n) (entered .args .d) _ _ (at-answered .answered .ensures) (omega (arith, at-if1 .if1 .left)))
+    (fitting (entered .args .n) (entered .args .d) _ _ (at-measured .measured .ensures) (omega (arith, at-if1 .if1 .left)))
 
 same-length : tie.Need-same-length
 same-length c = search needs
@@ -84,12 +89,12 @@ returns-2 c =
     let at-put-line = at-put-messages .before .before .before .before .before .before in
     let at-store = at-put-line .before .before .before .before .before .before .before .before in
     let at-if1 = at-store .before .before .before .before .before .before in
-    let at-answered = at-if1 .before .before in
-    let entered = at-answered .before .before .before .before .before .before in
+    let at-measured = at-if1 .before .before in
+    let entered = at-measured .before .before .before .before .before .before in
     let place : entered .args .d .kept - entered .args .d .first + entered .args .d .first ≡ entered .args .d .kept = omega (arith, entered .pre .decides .there) in
     let terms = stored-at (entered .pre) _ _ _ place (at-store .store .ensures .0) in
     let orders = stored-at (entered .pre) _ _ _ place (at-store .store .ensures .1) in
-    let fits = fitting (entered .args .n) (entered .args .d) _ _ (at-answered .answered .ensures) (omega (arith, at-if1 .if1 .left)) in
+    let fits = fitting (entered .args .n) (entered .args .d) _ _ (at-measured .measured .ensures) (omega (arith, at-if1 .if1 .left)) in
     lent-left (entered .pre) terms orders (entered .args .journal .now) (entered .args .messages .now) fits
     (at-put-line .put-line .ensures (entered .args .n) (entered .args .d) refl refl (fits .line))
     (at-put-messages .put-messages .ensures)
@@ -98,7 +103,8 @@ pub finish-adding-spec : {M : Type 1} → statement M
 finish-adding-spec =
     tie.close
     (tie.spec
-    answered-requires
+    measured-requires
+    refused-requires
     returns
     cast-first
     cast-store
