@@ -14,9 +14,10 @@ use Rattle.raft.specs.Sends.{texts}
 use Rattle.raft.specs.Outcome.{Outcome, done, refuse}
 use Rattle.raft.specs.Event.{Event, step}
 use Rattle.journal.specs.Opening.{opening}
-use Rattle.journal.specs.LongestLaws.{longest-line, longest-messages, step-longest}
+use Rattle.journal.specs.Longest.{longest-line, longest-messages}
+use Rattle.journal.specs.LongestLaws.{step-longest}
 use Rattle.safety.specs.Disks.{Site, built, Goes}
-use Rattle.safety.specs.OnDisk.{site-no-alarm}
+use Rattle.safety.specs.Demand3.{site-safe}
 use Rattle.record.specs.declared.Record.{Record}
 use Rattle.record.specs.Calls.{Called, untouched, fit, written, run, call}
 use Rattle.record.specs.ExactlyWhen.{Asked, Answers, state, overflows}
@@ -92,7 +93,7 @@ no-alarm mask a g i b r c = (
 
     told : (n : ℕ) → (n ≡ 0 → ⊥) → (n ≡ 5 → ⊥) → c .answer .refusal ≡ n → (n ≡ 6 → ⊥) × (n ≡ 7 → ⊥) × (n ≡ 8 → ⊥)
     told n z f e =
-        site-no-alarm mask a g i (c .event) (c .comes) n
+        site-safe mask .no-alarm a g i (c .event) (c .comes) n
         (ap (step (c .event)) (r .now) ∙ call-refusal (c .event) b (c .journal) (c .messages) sound n z f (answered c n e))
 
 -- ---- at one that is off

@@ -6,7 +6,6 @@ use mathlib.Core.Path.{_≡_, refl, sym, ap, _∙_}
 use mathlib.Core.List.{List, [], _∷_}
 use Rattle.frames.specs.declared.Entry.{Entry}
 use Rattle.raft.specs.Record.{State, handed-out}
-use Rattle.history.specs.Begins.{Begins}
 use Rattle.safety.specs.Park as park
 use Rattle.safety.specs.Park.{Park, Reached}
 use Rattle.safety.specs.Disks.{Site, built, Goes}
@@ -17,7 +16,7 @@ use Rattle.safety.specs.Succeeds.{succeed-run, still-leads-1, leads-2, succeeds
 use Rattle.host.specs.Host.{Running, Box, on, off, Host, nothing, HostRun}
 use Rattle.host.specs.Seen.{Leads, log-in, handed-by}
 use Rattle.host.specs.HostStands.{Stands, HostStands}
-use Rattle.host.specs.SeenLaws.{seat-leads, leader-hands, leader-log, seat-hands}
+use Rattle.host.specs.SeenLaws.{seen-seat, seat-leads, leader-log, hands-seat}
 use Rattle.host.specs.Hosted.{HostOn, host-shown}
 
 -- A run of a park, as one of a host.
@@ -35,27 +34,22 @@ module _ (p : Park) (r : Reached 7 p) where
   unfolding lifted
   lifted-run = at-host .run
 
-  -- Who leads the park leads there, and hands out the same, and holds the same.
+  -- Who leads the park leads there, and holds the same.
   module _ (i term : ℕ) (l : park.Leads (p .box i) term) where
     pub lifted-leads : Leads (lifted .box i) term
     unfolding lifted
     lifted-leads = seat-leads 7 (at-site .site) (at-site .run) i (at-host .host .box i) (at-host .stands .boxes i) term (rw (at-site .same i) l)
 
-    pub lifted-hands : handed-by (lifted .box i) ≡ handed-out (p .box i)
-    unfolding lifted
-    lifted-hands =
-        leader-hands 7 (at-site .site) (at-site .run) i (at-host .host .box i) (at-host .stands .boxes i) term lifted-leads ∙ ap handed-out (at-site .same i)
-
     pub lifted-holds : log-in (lifted .box i) ≡ p .box i .log
     unfolding lifted
     lifted-holds =
-        leader-log 7 (at-site .site) (at-site .run) i (at-host .host .box i) (at-host .stands .boxes i) term lifted-leads ∙ ap (λ s. s .log) (at-site .same i)
+        leader-log 7 i (at-host .host .box i) term lifted-leads
+        ∙ ap (λ s. s .log) (seen-seat 7 i (at-host .host .box i) (at-site .site .seat i) (at-host .stands .boxes i) ∙ at-site .same i)
 
-  -- Whoever hands out something hands it out there.
-  pub lifted-given : (i : ℕ) (e : Entry) (log : List Entry) → handed-out (p .box i) ≡ e ∷ log → handed-by (lifted .box i) ≡ e ∷ log
+  -- Each box hands out the same there.
+  pub lifted-hands : (i : ℕ) → handed-by (lifted .box i) ≡ handed-out (p .box i)
   unfolding lifted
-  lifted-given i e log h =
-      seat-hands 7 (at-site .site) (at-site .run) i (at-host .host .box i) (at-host .stands .boxes i) e log (ap handed-out (at-site .same i) ∙ h)
+  lifted-hands i = hands-seat 7 (at-site .site) (at-site .run) i (at-host .host .box i) (at-host .stands .boxes i) ∙ ap handed-out (at-site .same i)
 
 -- **A box leads.**
 pub host-elects : (h : Host) × HostRun 7 nothing h × Leads (h .box 1) 1
@@ -63,7 +57,7 @@ host-elects = (_, lifted-run _ (elects .0), lifted-leads _ (elects .0) 1 1 (elec
 
 -- **A follower hands out an order.**
 pub host-commits : (h : Host) × HostRun 7 nothing h × (handed-by (h .box 2) ≡ entry ∷ [])
-host-commits = (_, lifted-run _ (commits .0), lifted-given _ (commits .0) 2 entry [] (commits .1))
+host-commits = (_, lifted-run _ (commits .0), lifted-hands _ (commits .0) 2 ∙ commits .1)
 
 -- **A second leader holds what the first has handed out.**
 pub host-succeeds : (h : Host) × HostRun 7 nothing h × Leads (h .box 1) 1 × (handed-by (h .box 1) ≡ entry ∷ []) × Leads (h .box 2) 2 × (log-in (h .box 2) ≡ entry ∷ [])
@@ -73,7 +67,7 @@ host-succeeds =
       _,
       lifted-run _ r,
       lifted-leads _ r 1 1 still-leads-1,
-      lifted-hands _ r 1 1 still-leads-1,
+      lifted-hands _ r 1,
       lifted-leads _ r 2 2 leads-2,
       lifted-holds _ r 2 2 leads-2 ∙ succeeds .1,
     )

@@ -7,7 +7,7 @@ use mathlib.Core.Logic.{_⊎_, inl, inr}
 use mathlib.Core.List.{List, [], _∷_}
 use lib.ListN.{length, take}
 use Rattle.frames.specs.Message.{Message}
-use Rattle.raft.specs.Record.{State, handed-out}
+use Rattle.raft.specs.Record.{State, fresh, handed-out}
 use Rattle.raft.specs.Journal.{journaled}
 use Rattle.raft.specs.Commit.{settle}
 use Rattle.raft.specs.Sends.{vote-requests, appends}
@@ -18,18 +18,18 @@ use Rattle.raft.specs.Event.{Event, times-out, takes-order, step}
 use Rattle.journal.specs.Opening.{restarted, opened, opening}
 use Rattle.journal.specs.LifeLaws.{life-fails}
 use Rattle.history.specs.Begins.{Begins}
-use Rattle.history.specs.Put.{put-same}
+use Rattle.history.specs.PutLaws.{put-same}
 use Rattle.safety.specs.Park.{Park, Comes, Reached}
 use Rattle.safety.specs.Proper.{event-steps}
 use Rattle.safety.specs.Disks as disks
-use Rattle.safety.specs.Disks.{Seat, Site, built, written, seated, Happens, Goes}
-use Rattle.safety.specs.DisksLaws.{built-mirrors, goes-on}
+use Rattle.safety.specs.Disks.{Seat, Site, built, Started, written, seated, Happens, Goes}
+use Rattle.safety.specs.DisksLaws.{Stored, awaits, lives, life-started, started-lives, opened-lives, built-mirrors, goes-on}
 use Rattle.safety.specs.ParkOnDisk.{Shown, shown, always-opens}
 use Rattle.safety.specs.Commits.{opens, entry, committed, commits}
 use Rattle.host.specs.Host.{Running, Box, on, off, Host, nothing, HostRun, run-both}
 use Rattle.host.specs.Seen.{handed-by, log-in}
 use Rattle.host.specs.CallLaws.{record-of-box}
-use Rattle.host.specs.SeenLaws.{seat-hands}
+use Rattle.host.specs.SeenLaws.{hands-seat}
 use Rattle.host.specs.Hosted.{HostOn, Awake, wakes, awake-runs, fail-hosted, fail-down, hosted, host-shown}
 
 -- What is shown of each byte.
@@ -100,6 +100,15 @@ module _ (p : Park) (r : Reached 7 p) (leads : p .box 1 ≡ committed) (gave : h
   unfolding opens
   o = ap (step e) now
 
+  -- it was started, for it leads
+  up : Started (a .seat 1)
+  unfolding opens fresh
+  up = go (goes-on 7 _ (built-mirrors 7) g .mirrors .stored 1 refl)
+    where
+      go : Stored 1 7 (a .seat 1) → Started (a .seat 1)
+      go (awaits w) = absurd (omega (arith, ap (λ (s : State). s .role) (sym now ∙ w .untouched)))
+      go (lives l) = life-started 1 7 _ _ _ l
+
   abbrev torn : List ℕ
   torn = written (a .seat 1) (take k (journaled (a .seat 1 .now) second-order))
 
@@ -107,7 +116,7 @@ module _ (p : Park) (r : Reached 7 p) (leads : p .box 1 ≡ committed) (gave : h
   module _ (u : State) (n : ℕ) (found : opening 1 torn ≡ opened u n) where
     either : Stands-again u
     unfolding opens
-    either = go (life-fails 1 7 _ second-order _ _ (goes-on 7 _ (built-mirrors 7) g .mirrors .lives 1 refl) (event-steps (a .sent) (a .seat 1 .now) e c second-order _ o) k)
+    either = go (life-fails 1 7 _ second-order _ _ (started-lives (goes-on 7 _ (built-mirrors 7) g .mirrors .stored 1 refl) up) (event-steps (a .sent) (a .seat 1 .now) e c second-order _ o) k)
       where
         go : (opening 1 torn ≡ opened (restarted (a .seat 1 .now)) (a .seat 1 .place))
             ⊎ (opening 1 torn ≡ opened (restarted second-order) (a .seat 1 .place + length (journaled (a .seat 1 .now) second-order)))
@@ -121,7 +130,7 @@ module _ (p : Park) (r : Reached 7 p) (leads : p .box 1 ≡ committed) (gave : h
 
     w : Awake 7 (y .host) a 1
     unfolding opens
-    w = wakes 7 (y .host) a g (y .stands) 1 refl
+    w = wakes 7 (y .host) a g (y .stands) 1 up
 
     abbrev b : Site
     b = seated a 1 (record { now = u; disk = torn; place = n }) []
@@ -131,12 +140,19 @@ module _ (p : Park) (r : Reached 7 p) (leads : p .box 1 ≡ committed) (gave : h
 
     failed : Happens 7 a b
     unfolding opens
-    failed = disks.fails 1 refl e c second-order (appends second-order) o k u n found
+    failed = disks.fails 1 refl up e c second-order (appends second-order) o k u n found
 
     -- it stands again
     here : b .seat 1 .now ≡ u
     unfolding seated
     here = ap (λ (s : Seat). s .now) (put-same (a .seat) 1 _)
+
+    up-again : Started (b .seat 1)
+    unfolding seated opens
+    up-again =
+        let same : b .seat 1 .disk ≡ torn = ap (λ (s : Seat). s .disk) (put-same (a .seat) 1 (record { now = u; disk = torn; place = n })) in
+        let life = opened-lives {b = b .seat 1} (goes-on 7 _ (built-mirrors 7) (disks.goes g failed) .mirrors .stored 1 refl) (ap (opening 1) same ∙ found) in
+        life-started 1 7 _ _ _ life
 
     again : step times-out (b .seat 1 .now) ≡ done (either .next) (either .messages)
     again = ap (step times-out) here ∙ either .is
@@ -151,14 +167,19 @@ module _ (p : Park) (r : Reached 7 p) (leads : p .box 1 ≡ committed) (gave : h
 
     stood : Happens 7 b d
     unfolding opens
-    stood = disks.steps 1 refl times-out tt (either .next) (either .messages) again
+    stood = disks.steps 1 refl up-again times-out tt (either .next) (either .messages) again
 
     last : HostOn 7 (z .host) d
     last = hosted 7 (z .host) b (disks.goes g failed) (z .stands) (disks.goes disks.stays stood)
 
+    up-still : Started (d .seat 1)
+    unfolding seated
+    up-still =
+        let there : d .seat 1 .place ≡ b .seat 1 .place + length (journaled (b .seat 1 .now) (either .next)) = ap (λ (s : Seat). s .place) (put-same (b .seat) 1 _) in
+        omega (arith, there, up-again)
+
     v : Awake 7 (last .host) d 1
-    unfolding opens
-    v = wakes 7 (last .host) d (disks.goes (disks.goes g failed) stood) (last .stands) 1 refl
+    v = wakes 7 (last .host) d (disks.goes (disks.goes g failed) stood) (last .stands) 1 up-still
 
     there : record-of-box (v .box) ≡ either .next
     unfolding seated
@@ -171,7 +192,7 @@ module _ (p : Park) (r : Reached 7 p) (leads : p .box 1 ≡ committed) (gave : h
         record {
           first = y .host;
           run = y .run;
-          hands = seat-hands 7 a g 2 (y .host .box 2) (y .stands .boxes 2) entry [] (ap handed-out (x .same 2) ∙ gave);
+          hands = hands-seat 7 a g 2 (y .host .box 2) (y .stands .boxes 2) ∙ ap handed-out (x .same 2) ∙ gave;
           second = z .host;
           fails = z .run;
           disk = down .0;
@@ -187,7 +208,7 @@ module _ (p : Park) (r : Reached 7 p) (leads : p .box 1 ≡ committed) (gave : h
   found-all : FailsAt k
   unfolding opens
   found-all =
-      let found = always-opens 7 a g 1 refl e c second-order (appends second-order) o k in
+      let found = always-opens 7 a g 1 refl up e c second-order (appends second-order) o k in
       all (found .0) (found .1) (found .2)
 
 -- **Whatever byte it is.**

@@ -108,6 +108,9 @@ pub data Acts (mask i : ℕ) (network : List (List ℕ)) : Box → Box → List 
   -- Power fails when so many bytes of the head are written.
   start-fails : (disk : List ℕ) (o : Opening i disk) → o .answer .refusal ≡ 11 → (c : Start mask i) → c .answer .refusal ≡ 0 → (k : ℕ)
       → Acts mask i network (off disk) (off (over disk 0 (take k (head-in c)))) []
+  -- Before the head is written, what is on such a file may be cut off, or a part of it.
+  clears : (disk : List ℕ) (o : Opening i disk) → o .answer .refusal ≡ 11 → (c : Start mask i) → c .answer .refusal ≡ 0 → (k : ℕ)
+      → Acts mask i network (off disk) (off (take k disk)) []
   -- 3: "The line first, then the state, then the messages": a call that answers 0, its line whole.
   steps : (b : Running) (c : Call network b) → c .answer .refusal ≡ 0
       → Acts mask i network (on b) (on (record {

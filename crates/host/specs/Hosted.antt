@@ -1,6 +1,6 @@
 -- The other way round: **every run of a site is one of a host,** for each call answers, and with room enough it answers 0 where the step is done. So `Host` leaves out nothing
 -- that demand 3's runs allow, and what is claimed of hosts is not empty. Assumes nothing.
-use Prim.Native.Nat.{ℕ, _+_}
+use Prim.Native.Nat.{ℕ, _+_, _<_}
 use native.Mathlib.Nat.{le-refl}
 use native.Mathlib.Omega.{arith}
 use mathlib.Core.Path.{_≡_, refl, sym, ap, subst, _∙_}
@@ -11,16 +11,18 @@ use lib.ListN.{length, take}
 use borrow.Author.Tests.{le-leb}
 use Rattle.digits.specs.Room.{over}
 use Rattle.frames.specs.Message.{Message}
-use Rattle.raft.specs.Record.{State, is-membership, good}
+use Rattle.raft.specs.Record.{State, fresh, is-membership, good}
 use Rattle.raft.specs.Journal.{head, journaled}
 use Rattle.raft.specs.Sends.{texts}
 use Rattle.raft.specs.Outcome.{done}
 use Rattle.raft.specs.Event.{Event, step}
 use Rattle.journal.specs.Opening as journal
-use Rattle.history.specs.Put.{put, put-same}
+use Rattle.history.specs.Put.{put}
+use Rattle.history.specs.PutLaws.{put-same}
 use Rattle.safety.specs.Park.{Comes, frames}
 use Rattle.safety.specs.Disks as disks
-use Rattle.safety.specs.Disks.{Seat, Site, built, written, seated, Happens, Goes, goes-both}
+use Rattle.safety.specs.Disks.{Seat, Site, built, Started, written, seated, Happens, Goes, goes-both}
+use Rattle.safety.specs.DisksLaws.{Stored, awaits, lives, life-started, opened-lives, built-mirrors, goes-on}
 use Rattle.record.specs.Calls.{state-of, fit, run, call, begun}
 use Rattle.record.specs.Calls as calls
 use Rattle.opening.specs.Calls.{opens}
@@ -29,9 +31,9 @@ use Rattle.host.specs.Host as host
 use Rattle.host.specs.CallLaws.{record-of-box, call-steps, open-found, open-headless}
 use Rattle.host.specs.HeadLaws.{torn-headless}
 use Rattle.host.specs.HostStands.{Runs, Down, Unstarted, Stands, HostStands}
-use Rattle.host.specs.HostActs.{on-started, on-back, did-step, stepped-stands, failed-stands, reopened-stands, trimmed-stands}
+use Rattle.host.specs.HostActs.{started-stands, torn-stands, cleared-stands, on-back, did-step, stepped-stands, failed-stands, reopened-stands, trimmed-stands}
 use Rattle.host.specs.HostRuns.{nothing-stands, stands-idle, stands-moved}
-use Rattle.host.specs.SeenLaws.{runs-good}
+use Rattle.host.specs.SeenLaws.{runs-good, down-started}
 
 -- ---- each call answers
 
@@ -106,9 +108,9 @@ module _ (mask : ℕ) (h : Host) (a : Site) (g : Goes mask (built mask) a) (s : 
         is-on = put-same (h .box) i (on b);
       }
 
-  -- **A member's box can run, whatever byte power failed at:** by its file, or by a start where no head was whole.
-  pub wakes : is-membership i mask ≡ true → Awake mask h a i
-  wakes m = go (h .box i) refl (s .boxes i)
+  -- **A box that was started can run, whatever byte power failed at:** by its file.
+  pub wakes : Started (a .seat i) → Awake mask h a i
+  wakes up = go (h .box i) refl (s .boxes i)
     where
       go : (x : Box) → h .box i ≡ x → Stands mask i x (a .seat i) → Awake mask h a i
       go (on b) e r = record { on-with = record { host = h; run = stays; stands = s }; box = b; is-on = e }
@@ -116,11 +118,54 @@ module _ (mask : ℕ) (h : Host) (a : Site) (g : Goes mask (built mask) a) (s : 
           let c = the-opening i disk [] [] in
           let back = at-once c (open-found c _ _ (d .opens) .0) in
           woken (off disk) e _ (host.comes-back disk _ _ _ _ back) (on-back mask a g i disk d back)
-      go (off disk) e (inr u) =
-          let o = the-opening i disk [] [] in
-          let none = open-headless o (ap (journal.opening i) (u .torn) ∙ torn-headless i mask (u .count) (u .short)) in
-          let c = the-start mask i (head i mask) in
-          woken (off disk) e _ (host.starts disk o none c (start-0 mask i m) [] []) (on-started mask a g i disk u c (start-0 mask i m) [] [])
+      go (off disk) e (inr u) = absurd (omega (arith, u .place, up))
+
+  -- ---- a box that was not started
+
+  -- Its file has no whole head,
+  unstarted : a .seat i .place ≡ 0 → (disk : List ℕ) × (h .box i ≡ off disk) × Unstarted mask i disk (a .seat i)
+  unstarted z = go (h .box i) refl (s .boxes i)
+    where
+      go : (x : Box) → h .box i ≡ x → Stands mask i x (a .seat i) → (disk : List ℕ) × (h .box i ≡ off disk) × Unstarted mask i disk (a .seat i)
+      go (on b) e r = absurd (omega (arith, r .started, z))
+      go (off disk) e (inl d) = absurd (omega (arith, down-started mask a g i disk d, z))
+      go (off disk) e (inr u) = (disk, e, u)
+
+  -- and opens with 11.
+  the-11 : (disk : List ℕ) → Unstarted mask i disk (a .seat i) → the-opening i disk [] [] .answer .refusal ≡ 11
+  the-11 disk u =
+      open-headless (the-opening i disk [] []) (ap (journal.opening i) (u .torn) ∙ torn-headless i mask (u .count) (u .short))
+
+  -- An act of it, as something that happens at the site:
+  acts-off : {x : Box} → h .box i ≡ x → (b : Box) → Acts mask i (h .network) x b [] → (q : Seat) → Stands mask i b q → HostOn mask h (seated a i q [])
+  unfolding frames
+  acts-off e b act q st = record { host = _; run = goes stays (acted e act); stands = stands-moved mask h a s i b q [] st }
+
+  -- a start,
+  start-hosted : is-membership i mask ≡ true → a .seat i .place ≡ 0
+      → HostOn mask h (seated a i (record { now = fresh i mask; disk = over (a .seat i .disk) 0 (head i mask); place = length (head i mask) }) [])
+  start-hosted m z =
+      let x = unstarted z in
+      let c = the-start mask i (head i mask) in
+      acts-off (x .1) _ (host.starts (x .0) (the-opening i (x .0) [] []) (the-11 (x .0) (x .2)) c (start-0 mask i m) [] []) _
+      (started-stands mask a g i (x .0) (x .2) c (start-0 mask i m) [] [])
+
+  -- one in which power fails,
+  tear-hosted : is-membership i mask ≡ true → a .seat i .place ≡ 0 → (k : ℕ) → k < length (head i mask)
+      → HostOn mask h (seated a i (record { now = fresh i mask; disk = over (a .seat i .disk) 0 (take k (head i mask)); place = 0 }) [])
+  tear-hosted m z k l =
+      let x = unstarted z in
+      let c = the-start mask i (head i mask) in
+      acts-off (x .1) _ (host.start-fails (x .0) (the-opening i (x .0) [] []) (the-11 (x .0) (x .2)) c (start-0 mask i m) k) _
+      (torn-stands mask a g i (x .0) (x .2) c (start-0 mask i m) k l)
+
+  -- and a cut.
+  clear-hosted : is-membership i mask ≡ true → a .seat i .place ≡ 0 → (k : ℕ)
+      → HostOn mask h (seated a i (record { now = a .seat i .now; disk = take (a .seat i .place + k) (a .seat i .disk); place = a .seat i .place }) [])
+  clear-hosted m z k =
+      let x = unstarted z in
+      acts-off (x .1) _ (host.clears (x .0) (the-opening i (x .0) [] []) (the-11 (x .0) (x .2)) (the-start mask i (head i mask)) (start-0 mask i m) k) _
+      (cleared-stands mask a g i (x .0) (x .2) k)
 
 -- ---- what happens at a site
 
@@ -213,10 +258,19 @@ module _ (mask : ℕ) (h : Host) (a : Site) (g : Goes mask (built mask) a) (i : 
   trim-hosted k = acts-there _ [] (host.trims (w .box) k) _ [] refl (trimmed-stands mask a g i (w .box) awake-runs k)
 
 happens-hosted : (mask : ℕ) (h : Host) (a b : Site) → Goes mask (built mask) a → HostStands mask h a → Happens mask a b → HostOn mask h b
-happens-hosted mask h a b g s (disks.steps i m e c t ms o) = step-hosted mask h a g i (wakes mask h a g s i m) e c t ms o
-happens-hosted mask h a b g s (disks.fails i m e c t ms o k u n found) = fail-hosted mask h a g i (wakes mask h a g s i m) e c t ms o k u n found
-happens-hosted mask h a b g s (disks.reopens i m u n found) = reopen-hosted mask h a g i (wakes mask h a g s i m) u n found
-happens-hosted mask h a b g s (disks.trims i m k) = trim-hosted mask h a g i (wakes mask h a g s i m) k
+happens-hosted mask h a b g s (disks.starts i m z) = start-hosted mask h a g s i m z
+happens-hosted mask h a b g s (disks.tears i m z k l) = tear-hosted mask h a g s i m z k l
+happens-hosted mask h a b g s (disks.steps i m up e c t ms o) = step-hosted mask h a g i (wakes mask h a g s i up) e c t ms o
+happens-hosted mask h a b g s (disks.fails i m up e c t ms o k u n found) = fail-hosted mask h a g i (wakes mask h a g s i up) e c t ms o k u n found
+happens-hosted mask h a b g s (disks.reopens i m u n found) =
+    let life = opened-lives {b = a .seat i} (goes-on mask _ (built-mirrors mask) g .mirrors .stored i m) found in
+    reopen-hosted mask h a g i (wakes mask h a g s i (life-started i mask _ _ _ life)) u n found
+happens-hosted mask h a b g s (disks.trims i m k) = go (goes-on mask _ (built-mirrors mask) g .mirrors .stored i m)
+  where
+    go : Stored i mask (a .seat i)
+        → HostOn mask h (seated a i (record { now = a .seat i .now; disk = take (a .seat i .place + k) (a .seat i .disk); place = a .seat i .place }) [])
+    go (awaits w) = clear-hosted mask h a g s i m (w .nowhere) k
+    go (lives l) = trim-hosted mask h a g i (wakes mask h a g s i (life-started i mask _ _ _ l)) k
 
 -- **Every run of a site is one of a host:** from any moment on.
 pub hosted : (mask : ℕ) (h : Host) (a : Site) {b : Site} → Goes mask (built mask) a → HostStands mask h a → Goes mask a b → HostOn mask h b
