@@ -8,7 +8,7 @@ use mathlib.Core.Logic.{_⊎_, inl, inr}
 use lib.ListN.{length, length-take}
 use borrow.Author.Tests.{le-ltb}
 use Rattle.frames.specs.Message.{Message}
-use Rattle.raft.specs.Record.{State, is-membership, good}
+use Rattle.raft.specs.Record.{State, good}
 use Rattle.raft.specs.Journal.{head, journaled}
 use Rattle.raft.specs.Sends.{texts}
 use Rattle.raft.specs.Outcome.{Outcome, done, refuse}
@@ -25,7 +25,7 @@ use Rattle.record.specs.ExactlyWhenLaws.{given-exactly-when}
 use Rattle.host.specs.Host.{Running, Box, on, off, Call, Opening}
 use Rattle.host.specs.CallLaws.{record-of-box, open-found, open-headless}
 use Rattle.host.specs.HeadLaws.{torn-headless}
-use Rattle.host.specs.HostStands.{Runs, Down, Unstarted, Stands}
+use Rattle.host.specs.HostStands.{Runs, Stands}
 use Rattle.host.specs.SeenLaws.{runs-good}
 
 -- ---- what a number says of the step

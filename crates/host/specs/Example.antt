@@ -1,21 +1,17 @@
 -- Runs of a host that are shown: three boxes elect, take an order, hand it out; a second leader holds it; and power fails at any byte of the line of a second order, the
 -- box comes back, and goes on. They are the runs of `safety/specs`, lifted by `Hosted`. Assumes nothing.
 use Prim.Native.Nat.{ℕ}
-use native.Mathlib.Omega.{arith}
-use mathlib.Core.Path.{_≡_, refl, sym, ap, _∙_}
-use mathlib.Core.List.{List, [], _∷_}
-use Rattle.frames.specs.declared.Entry.{Entry}
-use Rattle.raft.specs.Record.{State, handed-out}
+use mathlib.Core.Path.{_≡_, ap, _∙_}
+use mathlib.Core.List.{[], _∷_}
+use Rattle.raft.specs.Record.{handed-out}
 use Rattle.safety.specs.Park as park
 use Rattle.safety.specs.Park.{Park, Reached}
-use Rattle.safety.specs.Disks.{Site, built, Goes}
 use Rattle.safety.specs.ParkOnDisk.{Shown, shown}
 use Rattle.safety.specs.Elects.{elects, third-reached}
 use Rattle.safety.specs.Commits.{opens, entry, commit-run, commits}
 use Rattle.safety.specs.Succeeds.{succeed-run, still-leads-1, leads-2, succeeds}
-use Rattle.host.specs.Host.{Running, Box, on, off, Host, nothing, HostRun}
+use Rattle.host.specs.Host.{Host, nothing, HostRun}
 use Rattle.host.specs.Seen.{Leads, log-in, handed-by}
-use Rattle.host.specs.HostStands.{Stands, HostStands}
 use Rattle.host.specs.SeenLaws.{seen-seat, seat-leads, leader-log, hands-seat}
 use Rattle.host.specs.Hosted.{HostOn, host-shown}
 

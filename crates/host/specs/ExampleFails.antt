@@ -26,7 +26,7 @@ use Rattle.safety.specs.Disks.{Seat, Site, built, Started, written, seated, Hap
 use Rattle.safety.specs.DisksLaws.{Stored, awaits, lives, life-started, started-lives, opened-lives, built-mirrors, goes-on}
 use Rattle.safety.specs.ParkOnDisk.{Shown, shown, always-opens}
 use Rattle.safety.specs.Commits.{opens, entry, committed, commits}
-use Rattle.host.specs.Host.{Running, Box, on, off, Host, nothing, HostRun, run-both}
+use Rattle.host.specs.Host.{Running, on, off, Host, nothing, HostRun, run-both}
 use Rattle.host.specs.Seen.{handed-by, log-in}
 use Rattle.host.specs.CallLaws.{record-of-box}
 use Rattle.host.specs.SeenLaws.{hands-seat}

@@ -2,12 +2,12 @@
 use Prim.Native.Nat.{ℕ, _+_, _≤_, _<_}
 use native.Mathlib.Decide.{decLe}
 use native.Mathlib.Omega.{arith}
-use mathlib.Core.Path.{_≡_, refl, sym, ap, _∙_}
+use mathlib.Core.Path.{_≡_, sym, ap, _∙_}
 use mathlib.Core.Bool.{true}
-use mathlib.Core.List.{List, [], _++_, append-nil}
+use mathlib.Core.List.{List, _++_, append-nil}
 use mathlib.Core.Logic.{_⊎_, inl, inr}
 use lib.ListN.{length, take, drop, length-take, drop-of-length-le, take-append-drop}
-use lib.Seq.{take-take, take-all}
+use lib.Seq.{take-take}
 use Rattle.digits.specs.Room.{over}
 use Rattle.raft.specs.Record.{fresh, is-membership}
 use Rattle.raft.specs.Journal.{head}

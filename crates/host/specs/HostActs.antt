@@ -2,7 +2,7 @@
 use Prim.Native.Nat.{ℕ, _+_, _≤_, _<_}
 use native.Mathlib.Decide.{decLe, decLt}
 use native.Mathlib.Omega.{arith}
-use mathlib.Core.Path.{_≡_, refl, sym, ap, subst, _∙_}
+use mathlib.Core.Path.{_≡_, refl, sym, ap, _∙_}
 use mathlib.Core.Bool.{true}
 use mathlib.Core.List.{List, []}
 use mathlib.Core.Logic.{_⊎_, inl, inr}
@@ -16,14 +16,14 @@ use Rattle.raft.specs.Outcome.{done}
 use Rattle.raft.specs.Event.{step}
 use Rattle.journal.specs.Opening.{restarted, opened, opening}
 use Rattle.journal.specs.LineSpelling.{head-nine}
-use Rattle.safety.specs.Park.{Comes, frames}
+use Rattle.safety.specs.Park.{frames}
 use Rattle.safety.specs.Disks.{Seat, Site, built, written, seated, Happens, Goes}
 use Rattle.safety.specs.Runs.{happened}
 use Rattle.safety.specs.ParkOnDisk.{always-opens, started-opens}
 use Rattle.record.specs.declared.Record.{Record}
 use Rattle.record.specs.Calls.{state-of}
 use Rattle.host.specs.Host.{Running, Box, on, off, Call, line-in, frames-in, Start, head-in, Opening, Back, Acts, starts, start-fails, clears, steps, step-fails, is-refused, fails, comes-back, trims}
-use Rattle.host.specs.CallLaws.{record-of-box, Stepped, call-steps, call-refused, Starting, start-fresh, open-found, back-opens}
+use Rattle.host.specs.CallLaws.{Stepped, call-steps, call-refused, start-fresh, open-found, back-opens}
 use Rattle.host.specs.HeadLaws.{laid-over, laid-whole, torn-headless, head-opens}
 use Rattle.host.specs.HostStands.{Runs, Down, Unstarted, Stands}
 use Rattle.host.specs.SeenLaws.{down-started}

@@ -13,7 +13,7 @@ use Rattle.safety.specs.Book.{book, below}
 use Rattle.safety.specs.Demand3.{Demand3}
 use Rattle.record.specs.Calls.{handed}
 use Rattle.host.specs.Host.{Running, on, off, Host, nothing, Call, Opening, HostRun, run-both}
-use Rattle.host.specs.Seen.{Leads, log-in, handed-by, seen, turned-in}
+use Rattle.host.specs.Seen.{Leads, log-in, handed-by, seen, turned-in, hosts}
 use Rattle.host.specs.HostStands.{Runs, Stands}
 use Rattle.host.specs.SeenLaws.{hands-0, seen-seat, leads-seen, leader-log, runs-good, hands-seat}
 use Rattle.host.specs.HostRuns.{AsSite, host-theorem}
@@ -34,9 +34,11 @@ pub record HostSafe (mask : ℕ) : Type 0 where
       → Begins (handed-by (h .box i)) (log-in (k .box j))
   pub holds-after : (h k : Host) → HostRun mask nothing h → HostRun mask h k → (i j t u : ℕ) → Leads (h .box i) t → Leads (k .box j) u → u < t
       → Begins (handed-by (k .box j)) (log-in (h .box i))
-  -- so all of the book that was written before, in terms up to its own. (The rest of what demand 3 says of the book: `HostRecords.hosts-safe`.)
+  -- so all of the book that was written before, in terms up to its own.
   pub holds-book : (h k : Host) (run : HostRun mask nothing h) → HostRun mask h k → (j t : ℕ) → Leads (k .box j) t
       → Begins (book (below (suc t) (turned-in run))) (log-in (k .box j))
+  -- The same, and the rest of what demand 3 says of the book, of the boxes' records.
+  pub demand-3 : Demand3 (hosts mask)
   -- No call ever answers 6, 7, 8 or 12,
   pub no-alarm : (h : Host) → HostRun mask nothing h → (i : ℕ) (b : Running) → h .box i ≡ on b → (c : Call (h .network) b)
       → (c .answer .refusal ≡ 6 → ⊥) × (c .answer .refusal ≡ 7 → ⊥) × (c .answer .refusal ≡ 8 → ⊥) × (c .answer .refusal ≡ 12 → ⊥)
@@ -121,6 +123,7 @@ host-safe mask =
       holds-before = host-before mask;
       holds-after = host-after mask;
       holds-book = host-holds-book mask;
+      demand-3 = hosts-safe mask;
       no-alarm = host-no-alarm mask;
       room-enough = λ h r i b e c. answers.no-5 c (runs-good mask _ (now mask h r .run) i b (running mask h r i b e));
       hands-out = host-hands mask;

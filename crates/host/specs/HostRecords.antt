@@ -1,15 +1,14 @@
 -- **Demand 3 of a host's runs, of the boxes' records and the run's book:** each is a site's run with the same records, the same frames and the same book, so what
 -- `safety/specs/Demand3` claims of sites it claims of hosts. Assumes nothing.
 use Prim.Native.Nat.{ℕ, suc, _≤_, _<_}
-use mathlib.Core.Path.{_≡_, sym, ap, subst}
-use mathlib.Core.List.{List}
+use mathlib.Core.Path.{_≡_, sym, subst}
 use Rattle.raft.specs.Record.{State, handed-out}
 use Rattle.raft.specs.Outcome.{refuse}
 use Rattle.raft.specs.Event.{Event, step}
 use Rattle.history.specs.Begins.{Begins, OneBegins}
 use Rattle.safety.specs.Park.{Comes, Leads}
-use Rattle.safety.specs.Disks.{Site, built, Goes, goes-both}
-use Rattle.safety.specs.Book.{Change, book, below, NoneAbove}
+use Rattle.safety.specs.Disks.{goes-both}
+use Rattle.safety.specs.Book.{book, below, NoneAbove}
 use Rattle.safety.specs.Runs.{happened-in}
 use Rattle.safety.specs.Demand3.{Demand3, site-safe}
 use Rattle.host.specs.Host.{Host, nothing, HostRun, run-both}

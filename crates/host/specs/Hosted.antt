@@ -6,7 +6,7 @@ use native.Mathlib.Omega.{arith}
 use mathlib.Core.Path.{_≡_, refl, sym, ap, subst, _∙_}
 use mathlib.Core.Bool.{true}
 use mathlib.Core.List.{List, [], _++_}
-use mathlib.Core.Logic.{_⊎_, inl, inr}
+use mathlib.Core.Logic.{inl, inr}
 use lib.ListN.{length, take}
 use borrow.Author.Tests.{le-leb}
 use Rattle.digits.specs.Room.{over}
@@ -30,7 +30,7 @@ use Rattle.host.specs.Host.{Running, Box, on, off, Host, nothing, Call, 
 use Rattle.host.specs.Host as host
 use Rattle.host.specs.CallLaws.{record-of-box, call-steps, open-found, open-headless}
 use Rattle.host.specs.HeadLaws.{torn-headless}
-use Rattle.host.specs.HostStands.{Runs, Down, Unstarted, Stands, HostStands}
+use Rattle.host.specs.HostStands.{Runs, Unstarted, Stands, HostStands}
 use Rattle.host.specs.HostActs.{started-stands, torn-stands, cleared-stands, on-back, did-step, stepped-stands, failed-stands, reopened-stands, trimmed-stands}
 use Rattle.host.specs.HostRuns.{nothing-stands, stands-idle, stands-moved}
 use Rattle.host.specs.SeenLaws.{runs-good, down-started}

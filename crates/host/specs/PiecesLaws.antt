@@ -16,9 +16,9 @@ use Rattle.raft.specs.SendLaws.{All}
 use Rattle.record.specs.declared.Record.{Record}
 use Rattle.record.specs.Calls.{state-of, record-of}
 use Rattle.journal.specs.Lines.{lines, whole-bytes, mask-in}
-use Rattle.journal.specs.LinesLaws.{Whole, strung, Split, split, split-lines, lines-first, counted-line, whole-lines, whole-most}
+use Rattle.journal.specs.LinesLaws.{Whole, strung, split, split-lines, lines-first, counted-line, whole-lines, whole-most}
 use Rattle.journal.specs.LineSpelling.{line-whole, head-whole}
-use Rattle.journal.specs.Opening.{Replayed, next, breaks, replayed, Opened, opened, headless, broken, go-on, replay, is-head, open-lines, opening}
+use Rattle.journal.specs.Opening.{Replayed, next, breaks, replayed, opened, headless, broken, go-on, replay, is-head, open-lines, opening}
 use Rattle.journal.specs.OpeningLaws.{is-head-exactly}
 use Rattle.journal.specs.OpeningExactly.{next-exactly}
 use Rattle.opening.specs.declared.Replayed as answers

@@ -2,12 +2,10 @@
 use Prim.Native.Nat.{ℕ}
 use native.Mathlib.Omega.{arith}
 use mathlib.Core.Path.{_≡_, refl, sym, ap, _∙_}
-use mathlib.Core.Bool.{Bool, true, false, cond}
-use mathlib.Core.List.{List, [], _∷_}
-use lib.ListN.{length}
-use mathlib.Core.Logic.{_⊎_, inl, inr}
-use Rattle.frames.specs.declared.Entry.{Entry}
-use Rattle.raft.specs.Record.{State, leader, fresh, is-membership, good, handed-out}
+use mathlib.Core.Bool.{true}
+use mathlib.Core.List.{List}
+use mathlib.Core.Logic.{inl, inr}
+use Rattle.raft.specs.Record.{State, fresh, is-membership, good, handed-out}
 use Rattle.journal.specs.Opening.{restarted, opened, opening}
 use Rattle.journal.specs.LifeLaws.{Life, life-opens}
 use Rattle.safety.specs.Park as park
@@ -21,7 +19,7 @@ use Rattle.host.specs.Host.{Running, Box, on, off}
 use Rattle.host.specs.CallLaws.{record-of-box}
 use Rattle.host.specs.HeadLaws.{torn-headless}
 use Rattle.host.specs.Seen.{Leads, log-in, handed-by, found-or, seen}
-use Rattle.host.specs.HostStands.{Runs, Down, Unstarted, Stands}
+use Rattle.host.specs.HostStands.{Runs, Down, Stands}
 
 -- Of a good record `handed_out` answers 0.
 pub hands-0 : (b : Running) → good (record-of-box b) ≡ true → handed (b .node .state) (b .terms) (b .orders) .refusal ≡ 0
