@@ -37,7 +37,7 @@ use Rattle.host.specs.SeenLaws.{runs-good, down-started}
 
 -- ---- each call answers
 
-the-call : (network : List (List ℕ)) (b : Running) (e : Event) → Comes network e → (journal messages : List ℕ) → Call network b
+unfoldable pub the-call : (network : List (List ℕ)) (b : Running) (e : Event) → Comes network e → (journal messages : List ℕ) → Call network b
 the-call network b e c journal messages =
     let x = call e (b .node .state) (b .terms) (b .orders) journal messages in
     record {
@@ -74,7 +74,7 @@ unfolding the-start begun
 start-0 mask i m = rw (m, le-leb (length (head i mask)) (length (head i mask)) (le-refl _))
 
 -- and so does a step that is done, with room for its line and its messages.
-call-0 : (network : List (List ℕ)) (b : Running) (e : Event) (c : Comes network e) (t : State) (ms : List Message) → good (record-of-box b) ≡ true
+pub call-0 : (network : List (List ℕ)) (b : Running) (e : Event) (c : Comes network e) (t : State) (ms : List Message) → good (record-of-box b) ≡ true
     → step e (record-of-box b) ≡ done t ms → the-call network b e c (journaled (record-of-box b) t) (texts ms) .answer .refusal ≡ 0
 unfolding the-call call run calls.written fit
 call-0 network b e c t ms g o =

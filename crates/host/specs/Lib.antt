@@ -17,3 +17,4 @@ pub mod HostDemand3
 pub mod Hosted
 pub mod Example
 pub mod ExampleFails
+pub mod OldStruct
