@@ -95,12 +95,12 @@ later mask r x (goes {k = k} {l = l} v t) = go (later mask r x v)
         let o = turns-on mask k l (y .site) (goes-both (x .run) (y .run)) (y .stands) t in
         record { site = o .site; run = disks.goes (y .run) (o .happens); stands = o .stands; told = rw (o .told, y .told) }
 
-nothing-as : (mask : ℕ) → AsSite {mask = mask} stays
+unfoldable pub nothing-as : (mask : ℕ) → AsSite {mask = mask} stays
 unfolding turned-in happened-in
 nothing-as mask = record { site = built mask; run = disks.stays; stands = nothing-stands mask; told = refl }
 
 -- **Every run of a host is one of a site.**
-pub host-theorem : (mask : ℕ) {h : Host} (r : HostRun mask nothing h) → AsSite r
+unfoldable pub host-theorem : (mask : ℕ) {h : Host} (r : HostRun mask nothing h) → AsSite r
 unfolding turned-in happened-in
 host-theorem mask stays = nothing-as mask
 host-theorem mask (goes {k = k} {l = l} r t) = go (host-theorem mask r)

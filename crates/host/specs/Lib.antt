@@ -12,6 +12,7 @@ pub mod SeenLaws
 pub mod HostActs
 pub mod HostRuns
 pub mod HostRecords
+pub mod HostBookToday
 pub mod Answers
 pub mod HostDemand3
 pub mod Hosted
