@@ -16,14 +16,15 @@ use Rattle.raft.specs.Event.{Event, step}
 use Rattle.journal.specs.Opening.{opening}
 use Rattle.journal.specs.Longest.{longest-line, longest-messages}
 use Rattle.journal.specs.LongestLaws.{step-longest}
+use Rattle.safety.specs.Park.{Comes}
 use Rattle.safety.specs.Disks.{Site, built, Goes}
 use Rattle.safety.specs.Demand3.{site-safe}
 use Rattle.record.specs.declared.Record.{Record}
 use Rattle.record.specs.Calls.{Called, untouched, fit, written, run, call}
-use Rattle.record.specs.ExactlyWhen.{Asked, Answers, state, overflows}
+use Rattle.record.specs.ExactlyWhen.{Asked, no-frame, state, overflows, breaks-a-rule}
 use Rattle.record.specs.ExactlyWhenLaws.{given-exactly-when}
 use Rattle.host.specs.Host.{Running, Box, on, off, Call, Opening}
-use Rattle.host.specs.CallLaws.{record-of-box, open-found, open-headless}
+use Rattle.host.specs.CallLaws.{record-of-box, asked, answered, open-found, open-headless}
 use Rattle.host.specs.HeadLaws.{torn-headless}
 use Rattle.host.specs.HostStands.{Runs, Stands}
 use Rattle.host.specs.SeenLaws.{runs-good}
@@ -46,15 +47,6 @@ call-refusal : (e : Event) (b : Running) (journal messages : List ℕ) → good 
 unfolding call
 call-refusal e b journal messages g n z f p =
     told-refusal (step e (record-of-box b)) (b .node .state) (b .terms) (b .orders) journal messages n z f (rw g at p)
-
--- What was asked.
-abbrev asked : {network : List (List ℕ)} {b : Running} → Call network b → Asked
-asked {b = b} c =
-    record { event = c .event; box = b .node .state; terms = b .terms; orders = b .orders; journal = c .journal; messages = c .messages }
-
--- The answer is the contract's.
-answered : {network : List (List ℕ)} {b : Running} (c : Call network b) (n : ℕ) → c .answer .refusal ≡ n → Answers (asked c) n
-answered c n e = sym (ap (λ (x : Called). x .answer .refusal) (c .contract)) ∙ e
 
 -- ---- at a box that runs
 
@@ -91,10 +83,22 @@ no-alarm mask a g i b r c = (
     sound : good (record-of-box b) ≡ true
     sound = runs-good mask a g i b r
 
+    -- bytes that are not one frame are answered 1
+    noise : no-frame (c .event) ≡ true → c .answer .refusal ≡ 1
+    noise h =
+        let kept : breaks-a-rule (asked c) ≡ false = rw sound in
+        ap (λ (x : Called). x .answer .refusal) (c .contract) ∙ given-exactly-when (asked c) .row-1 .when (record { holds = h; before = (kept, tt) })
+
     told : (n : ℕ) → (n ≡ 0 → ⊥) → (n ≡ 5 → ⊥) → c .answer .refusal ≡ n → (n ≡ 6 → ⊥) × (n ≡ 7 → ⊥) × (n ≡ 8 → ⊥)
-    told n z f e =
-        site-safe mask .no-alarm a g i (c .event) (c .comes) n
-        (ap (step (c .event)) (r .now) ∙ call-refusal (c .event) b (c .journal) (c .messages) sound n z f (answered c n e))
+    told n z f e = go (c .comes)
+      where
+        go : Comes (a .sent) (c .event) ⊎ (no-frame (c .event) ≡ true) → (n ≡ 6 → ⊥) × (n ≡ 7 → ⊥) × (n ≡ 8 → ⊥)
+        go (inl came) =
+            site-safe mask .no-alarm a g i (c .event) came n
+            (ap (step (c .event)) (r .now) ∙ call-refusal (c .event) b (c .journal) (c .messages) sound n z f (answered c n e))
+        go (inr h) =
+            let one : n ≡ 1 = sym e ∙ noise h in
+            (λ q. omega (arith, one, q), λ q. omega (arith, one, q), λ q. omega (arith, one, q))
 
 -- ---- at one that is off
 

@@ -2,8 +2,9 @@
 use Prim.Native.Nat.{ℕ, _+_}
 use native.Mathlib.Omega.{arith}
 use mathlib.Core.Path.{_≡_, refl, sym, ap, subst, _∙_}
-use mathlib.Core.Bool.{true}
+use mathlib.Core.Bool.{true, true≢false}
 use mathlib.Core.List.{List}
+use mathlib.Core.Logic.{_⊎_, inl, inr}
 use lib.ListN.{length, take, drop}
 use lib.Seq.{take-at}
 use Rattle.digits.specs.Room.{over}
@@ -15,10 +16,12 @@ use Rattle.raft.specs.Outcome.{done}
 use Rattle.raft.specs.Event.{step}
 use Rattle.journal.specs.Lines.{lines}
 use Rattle.journal.specs.Opening as journal
-use Rattle.safety.specs.Park.{frames}
+use Rattle.safety.specs.Park.{Comes, frames}
 use Rattle.safety.specs.Split.{room-is-frames}
 use Rattle.record.specs.declared.Record.{Record}
-use Rattle.record.specs.Calls.{state-of, Begun}
+use Rattle.record.specs.Calls.{state-of, Called, Begun}
+use Rattle.record.specs.ExactlyWhen.{Asked, no-frame, Answers}
+use Rattle.record.specs.ExactlyWhenLaws.{given-exactly-when}
 use Rattle.record.specs.SameLaws.{next-lent}
 use Rattle.record.specs.NextRecord.{Fresh, begun-fresh}
 use Rattle.node.specs.NextRecord.{next-record, nothing-changed}
@@ -40,6 +43,22 @@ read-front : (room text left : List ℕ) (n : ℕ) → left ≡ over room 0 text
 read-front room text left n e f = rw (e, f) (room-front room text)
 
 -- ---- an event
+
+-- What was asked, and that the answer's number is the contract's.
+abbrev pub asked : {network : List (List ℕ)} {b : Running} → Call network b → Asked
+asked {b = b} c =
+    record { event = c .event; box = b .node .state; terms = b .terms; orders = b .orders; journal = c .journal; messages = c .messages }
+
+pub answered : {network : List (List ℕ)} {b : Running} (c : Call network b) (n : ℕ) → c .answer .refusal ≡ n → Answers (asked c) n
+answered c n e = sym (ap (λ (x : Called). x .answer .refusal) (c .contract)) ∙ e
+
+-- Bytes that are not one frame are never answered 0.
+pub call-comes : {network : List (List ℕ)} {b : Running} (c : Call network b) → c .answer .refusal ≡ 0 → Comes network (c .event)
+call-comes {network} c z = go (c .comes)
+  where
+    go : Comes network (c .event) ⊎ (no-frame (c .event) ≡ true) → Comes network (c .event)
+    go (inl x) = x
+    go (inr n) = absurd (true≢false (sym n ∙ given-exactly-when (asked c) .row-0 .only (answered c 0 z) .1 .0))
 
 -- A call that answers 0 is a step: of the box's record, to that of the struct and the arrays that it leaves; it hands over the step's line and its frames.
 pub record Stepped {network : List (List ℕ)} {b : Running} (c : Call network b) : Type 0 where

@@ -2,7 +2,9 @@
 -- asks for what stands beside them. Assumes nothing.
 use Prim.Native.Nat.{ℕ, _+_}
 use mathlib.Core.Path.{_≡_}
+use mathlib.Core.Bool.{true}
 use mathlib.Core.List.{List, [], _++_}
+use mathlib.Core.Logic.{_⊎_}
 use lib.ListN.{take, drop}
 use Rattle.digits.specs.Room.{over}
 use Rattle.raft.specs.Event.{Event}
@@ -10,6 +12,7 @@ use Rattle.journal.specs.Lines.{lines}
 use Rattle.history.specs.Put.{put}
 use Rattle.safety.specs.Park.{Comes}
 use Rattle.record.specs.declared.Record.{Record}
+use Rattle.record.specs.ExactlyWhen.{no-frame}
 use Rattle.node.specs.declared.Node.{Node}
 use Rattle.node.specs.declared.Started.{Started}
 use Rattle.node.specs.declared.Answer.{Answer}
@@ -20,7 +23,8 @@ use Rattle.host.specs.Pieces.{Passed}
 
 -- ---- what a host has
 
--- Of a box that runs: the struct, the two arrays that are lent for its log, its file's bytes, and the place in them at which the next line is written.
+-- Of a box that runs: the struct, the two arrays that are lent for its log, its file's bytes, and the place in them at which the next line is written. (The arrays have
+-- 256 places, and their numbers fit their types: nothing here needs that.)
 pub record Running : Type 0 where
   pub node : Node
   pub terms : List ℕ
@@ -38,18 +42,18 @@ pub record Host : Type 0 where
   pub box : ℕ → Box
   pub network : List (List ℕ)
 
--- Before anything was done: empty files, and nothing was sent.
+-- Before anything was done: empty files, and nothing was sent. (A file that is lost later is no part of this: 10, "A lost journal is not a fresh box".)
 unfoldable pub nothing : Host
 nothing = record { box = λ i. off []; network = [] }
 
 -- ---- a call
 
 -- A call of an event at a box that runs, whatever it answers. The event is one that may come: by 7 a timeout or a prompt at any time; an order of 8 bytes; by 9 any
--- frame that ever left a box. Any room is lent for the line and the messages, whatever it holds; the answer, and all that was lent as the call leaves it, are what
--- the contract says.
+-- frame that ever left a box, or any bytes that are not one frame. Any room is lent for the line and the messages, whatever it holds; the answer, and all that was lent
+-- as the call leaves it, are what the contract says.
 pub record Call (network : List (List ℕ)) (b : Running) : Type 0 where
   pub event : Event
-  pub comes : Comes network event
+  pub comes : Comes network event ⊎ (no-frame event ≡ true)
   pub journal : List ℕ
   pub messages : List ℕ
   pub answer : Answer

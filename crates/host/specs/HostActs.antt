@@ -22,8 +22,9 @@ use Rattle.safety.specs.Runs.{happened}
 use Rattle.safety.specs.ParkOnDisk.{always-opens, started-opens}
 use Rattle.record.specs.declared.Record.{Record}
 use Rattle.record.specs.Calls.{state-of}
-use Rattle.host.specs.Host.{Running, Box, on, off, Call, line-in, frames-in, Start, head-in, Opening, Back, Acts, starts, start-fails, clears, steps, step-fails, is-refused, fails, comes-back, trims}
-use Rattle.host.specs.CallLaws.{Stepped, call-steps, call-refused, start-fresh, open-found, back-opens}
+use Rattle.host.specs.Host.{Running, Box, on, off, Call, line-in, frames-in, Start, head-in, Opening, Back}
+use Rattle.host.specs.Host.{Acts, starts, start-fails, clears, steps, step-fails, is-refused, fails, comes-back, trims}
+use Rattle.host.specs.CallLaws.{call-comes, Stepped, call-steps, call-refused, start-fresh, open-found, back-opens}
 use Rattle.host.specs.HeadLaws.{laid-over, laid-whole, torn-headless, head-opens}
 use Rattle.host.specs.HostStands.{Runs, Down, Unstarted, Stands}
 use Rattle.host.specs.SeenLaws.{down-started}
@@ -250,7 +251,7 @@ module _ (mask : ℕ) (a : Site) (g : Goes mask (built mask) a) (i : ℕ) where
           record {
             seat = record { now = t; disk = written (a .seat i) (journaled (a .seat i .now) t); place = a .seat i .place + length (journaled (a .seat i .now) t) };
             messages = did .messages;
-            happens = Happens.steps i (r .member) (r .started) (c .event) (c .comes) t (did .messages) did-step;
+            happens = Happens.steps i (r .member) (r .started) (c .event) (call-comes c z) t (did .messages) did-step;
             told = refl;
             stands = stepped-stands;
             leave = did .leave;
@@ -260,11 +261,11 @@ module _ (mask : ℕ) (a : Site) (g : Goes mask (built mask) a) (i : ℕ) where
       on-step-failed : (k : ℕ) → Follows mask a i (off (over (b .disk) (b .place) (take k (line-in c)))) []
       unfolding frames did happened
       on-step-failed k =
-          let found = always-opens mask a g i (r .member) (r .started) (c .event) (c .comes) t (did .messages) did-step k in
+          let found = always-opens mask a g i (r .member) (r .started) (c .event) (call-comes c z) t (did .messages) did-step k in
           record {
             seat = record { now = found .0; disk = written (a .seat i) (take k (journaled (a .seat i .now) t)); place = found .1 };
             messages = [];
-            happens = Happens.fails i (r .member) (r .started) (c .event) (c .comes) t (did .messages) did-step k (found .0) (found .1) (found .2);
+            happens = Happens.fails i (r .member) (r .started) (c .event) (call-comes c z) t (did .messages) did-step k (found .0) (found .1) (found .2);
             told = refl;
             stands = failed-stands k (found .0) (found .1) (found .2);
             leave = refl;

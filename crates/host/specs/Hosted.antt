@@ -42,7 +42,7 @@ the-call network b e c journal messages =
     let x = call e (b .node .state) (b .terms) (b .orders) journal messages in
     record {
       event = e;
-      comes = c;
+      comes = inl c;
       journal = journal;
       messages = messages;
       answer = record { node = record { state = x .answer .state }; line = x .answer .line; sent = x .answer .sent; refusal = x .answer .refusal };
