@@ -48,6 +48,7 @@ late = gives 3 3 1 taken-3
 
 -- ---- term 2
 
+-- Box 2 may give its vote to box 3,
 voted-2-facts : Facts (fixed 7) voted-2
 unfolding steps
 voted-2-facts =
@@ -55,6 +56,7 @@ voted-2-facts =
     gives-facts 2 2 3 f (omega arith) (λ d v. absurd (omega (arith, f .voted-reached 2 2 d v)))
     (record { log = []; has = inr asks-now; newer = refl })
 
+-- nobody had won the term,
 unwon-2 : Won (voted-2 .leaders) 2 → ⊥
 unfolding steps
 unwon-2 w = go (w .has)
@@ -66,6 +68,7 @@ unwon-2 w = go (w .has)
 unwon-2-by : (start : List Entry) → voted-2 .leaders .won 2 3 start → ⊥
 unwon-2-by start w = unwon-2 (record { box = 3; start = start; has = w })
 
+-- boxes 2 and 3 granted,
 granted-2 : Most 7 (λ j. Granted (voted-2 .granted) j 2 3)
 unfolding steps
 granted-2 =
@@ -73,6 +76,7 @@ granted-2 =
     (record { log = []; has = inr (grants-now unwon-2-by) })
     (record { log = []; has = inl (inr (grants-now unwon-2-by)) })
 
+-- so box 3 wins and adds its entry.
 added-2-facts : Facts (fixed 7) added-2
 unfolding steps
 added-2-facts =
@@ -81,6 +85,7 @@ added-2-facts =
 
 -- ---- term 3
 
+-- Box 2 may give its vote to box 1,
 voted-3-facts : Facts (fixed 7) voted-3
 unfolding steps
 voted-3-facts =
@@ -88,6 +93,7 @@ voted-3-facts =
     gives-facts 2 3 1 f (omega arith) (λ d v. absurd (omega (arith, f .voted-reached 2 3 d v)))
     (record { log = first ∷ []; has = inr asks-now; newer = refl })
 
+-- nobody had won the term,
 unwon-3 : Won (voted-3 .leaders) 3 → ⊥
 unfolding steps
 unwon-3 w = go (w .has)
@@ -100,6 +106,7 @@ unwon-3 w = go (w .has)
 unwon-3-by : (start : List Entry) → voted-3 .leaders .won 3 1 start → ⊥
 unwon-3-by start w = unwon-3 (record { box = 1; start = start; has = w })
 
+-- boxes 1 and 2 granted,
 granted-3 : Most 7 (λ j. Granted (voted-3 .granted) j 3 1)
 unfolding steps
 granted-3 =
@@ -107,10 +114,12 @@ granted-3 =
     (record { log = first ∷ []; has = inl (inr (grants-now unwon-3-by)) })
     (record { log = []; has = inr (grants-now unwon-3-by) })
 
+-- so box 1 wins,
 won-3-facts : Facts (fixed 7) won-3
 unfolding steps
 won-3-facts = wins-facts 1 voted-3-facts unwon-3 (inr asks-now) (agree-fixed 7 _ _ (omega arith) granted-3)
 
+-- and box 3 accepts its log.
 taken-3-facts : Facts (fixed 7) taken-3
 unfolding steps
 taken-3-facts =

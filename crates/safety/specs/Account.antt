@@ -21,10 +21,9 @@ use Rattle.safety.specs.Book.{Change, book}
 use Rattle.safety.specs.Runs.{Runs}
 use Rattle.safety.specs.BookLaws.{leader-writes, Wrote, covered-writes, wrote-later, book-more, book-has}
 use Rattle.safety.specs.Sent.{Sent, Among}
-use Rattle.safety.specs.Proper.{Proper, reached-proper}
+use Rattle.safety.specs.Proper.{reached-proper}
 use Rattle.safety.specs.Carried.{Kept, Carried}
 use Rattle.safety.specs.Endings.{Ending}
-use Rattle.safety.specs.Next.{Known}
 use Rattle.safety.specs.CarriedRun.{Onward, known-box, run-carried}
 use Rattle.safety.specs.Booked.{Booked, quiet-booked, step-booked}
 

@@ -1,8 +1,8 @@
 -- The laws of the book: where all that was written is covered by a history, it is one book, which only grows. Assumes nothing.
-use Prim.Native.Nat.{ℕ, suc, _≤_}
+use Prim.Native.Nat.{ℕ, suc}
 use native.Mathlib.Omega.{arith}
 use mathlib.Core.Path.{_≡_, refl, ap, _∙_}
-use mathlib.Core.Bool.{Bool, true, false, cond}
+use mathlib.Core.Bool.{true, false}
 use mathlib.Core.List.{List, [], _∷_, List·Memᴰ·head, List·Memᴰ·tail}
 use mathlib.Core.Logic.{inl, inr}
 use lib.Dec.{ltb}
@@ -12,7 +12,7 @@ use Rattle.frames.specs.declared.Entry.{Entry}
 use Rattle.raft.specs.Record.{leader, handed-out}
 use Rattle.raft.specs.CommitLaws.{by-test}
 use Rattle.history.specs.Begins.{Begins, OneBegins}
-use Rattle.history.specs.BeginsLaws.{begins-long, begins-self, begins-trans, begins-whole, nothing-begins}
+use Rattle.history.specs.BeginsLaws.{begins-long, begins-self, begins-trans, begins-whole}
 use Rattle.history.specs.InForce.{Rule}
 use Rattle.history.specs.History.{History, Facts}
 use Rattle.history.specs.Book.{Covered, nothing, covered-less, one-book}
@@ -55,12 +55,20 @@ pub writes-either : (P : List Entry → Type 0) (c : Change) → P (handed-out (
 unfolding writes
 writes-either P c p q = by-test P (by-leader c) (handed-out (c .behind)) [] (λ e. p) (λ e. q)
 
--- A move that is no leader's leaves the book.
+-- Nothing more is not longer,
+longer-nothing : (log : List Entry) → log ≡ longer log []
+unfolding longer
+longer-nothing log = by-test (λ x. log ≡ x) (ltb (length log) 0) [] log (λ h. absurd (omega (arith, ltb-true (length log) 0 h))) (λ h. refl)
+
+-- so a move that is no leader's leaves the book,
 nothing-written : (c : Change) (log : List Entry) → (by-leader c ≡ true → ⊥) → log ≡ longer log (writes c)
-unfolding writes longer
+unfolding writes
 nothing-written c log none =
-    by-test (λ x. log ≡ cond (ltb (length log) (length x)) x log) (by-leader c) (handed-out (c .behind)) [] (λ e. absurd (none e))
-    (λ e. by-test (λ x. log ≡ x) (ltb (length log) 0) [] log (λ h. absurd (omega (arith, ltb-true (length log) 0 h))) (λ h. refl))
+    by-test (λ x. log ≡ longer log x) (by-leader c) (handed-out (c .behind)) [] (λ e. absurd (none e)) (λ e. longer-nothing log)
+
+-- and so does one behind which nothing is handed out.
+pub book-silent : (c : Change) (log : List Entry) → handed-out (c .behind) ≡ [] → log ≡ longer log (writes c)
+book-silent c log e = writes-either (λ x. log ≡ longer log x) c (rw e (longer-nothing log)) (longer-nothing log)
 
 -- What moves have written is covered in the history, each by a term up to its own.
 unfoldable pub Wrote : Rule → History → List Change → Type 0

@@ -3,9 +3,9 @@
 -- 'what any box hands out is in the book' is the easier the more is in the book; by these laws no more is in it than before.) Assumes nothing.
 use Prim.Native.Nat.{ℕ}
 use native.Mathlib.Omega.{arith}
-use mathlib.Core.Path.{_≡_, refl, sym, ap, _∙_}
+use mathlib.Core.Path.{_≡_, refl, ap}
 use mathlib.Core.Bool.{Bool, true, false, cond, _&&_, _||_}
-use mathlib.Core.List.{List, [], _∷_}
+use mathlib.Core.List.{List, []}
 use lib.Dec.{eqb}
 use borrow.Author.Tests.{eqb-true}
 use Rattle.digits.specs.Tests.{and-left, and-right}
@@ -27,7 +27,7 @@ use Rattle.history.specs.BeginsLaws.{begins-self, begins-trans, begins-nothing,
 use Rattle.history.specs.PutLaws.{put-same}
 use Rattle.safety.specs.Park.{Park, after, Move, steps, restarts, stays, moves, run-both, Reached, Leads}
 use Rattle.safety.specs.Disks.{Seat, Site, built, seated, Happens, Goes, goes-both}
-use Rattle.safety.specs.Book.{Change, by-leader, writes, longer, book}
+use Rattle.safety.specs.Book.{Change, by-leader, writes, book}
 use Rattle.safety.specs.Runs.{Runs, parks, sites, moved, moves-of, happened, happened-in}
 use Rattle.safety.specs.Demand3.{Demand3, park-safe, site-safe}
 use Rattle.safety.specs.BookLaws.{longer-either, writes-either}

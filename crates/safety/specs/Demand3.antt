@@ -12,7 +12,7 @@ use Rattle.safety.specs.Book.{book, below, NoneAbove}
 use Rattle.safety.specs.Runs.{Runs, parks, sites}
 use Rattle.safety.specs.Sent.{wider}
 use Rattle.safety.specs.BookLaws.{book-below}
-use Rattle.safety.specs.Account.{StandsAs, Account, Further, Accounts}
+use Rattle.safety.specs.Account.{StandsAs, Further, Accounts}
 use Rattle.safety.specs.ParkAccount.{park-accounts}
 use Rattle.safety.specs.SiteAccount.{site-accounts}
 use Rattle.safety.specs.OneLeader.{one-leader}

@@ -5,8 +5,7 @@ use mathlib.Core.Path.{_≡_, refl, sym, ap, _∙_}
 use mathlib.Core.Bool.{true}
 use mathlib.Core.List.{List, [], _++_, append-nil, Memᴰ·append-right}
 use mathlib.Core.Logic.{_⊎_, inl, inr}
-use lib.Dec.{eqb}
-use lib.ListN.{length, take, drop, length-append, length-take, length-drop, drop-of-length-le}
+use lib.ListN.{length, take, length-append, length-take, length-drop, drop-of-length-le}
 use Rattle.digits.specs.Room.{over}
 use Rattle.frames.specs.Message.{Message}
 use Rattle.raft.specs.Record.{State, fresh, is-membership}

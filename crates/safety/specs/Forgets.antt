@@ -48,6 +48,7 @@ box-3-leads = settle (leading (adding box-3-stands 2))
 abbrev both-lead : Park
 both-lead = after votes-again 3 box-3-leads (appends box-3-leads)
 
+-- the run in which it comes to lead
 forget-run : Run 7 forgotten both-lead
 unfolding opens
 forget-run =

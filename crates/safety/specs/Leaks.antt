@@ -29,12 +29,12 @@ use Rattle.safety.specs.DisksLaws.{none-awaits, starts-lives, built-mirr
 use Rattle.safety.specs.Elects.{opens as opens-votes, arrives, request, box-1-stands, box-2-votes, box-1-leads}
 
 -- To open this is to open every step.
-opens : Unit {0}
+unfoldable pub opens : Unit {0}
 unfolding opens-votes built seated leading settle restarted
 opens = tt
 
 -- A box's step, its line whole.
-abbrev stepped : Site → ℕ → State → List Message → Site
+abbrev pub stepped : Site → ℕ → State → List Message → Site
 stepped a i t ms =
     seated a i (record {
       now = t;
@@ -43,7 +43,7 @@ stepped a i t ms =
     }) ms
 
 -- The three boxes are started.
-abbrev up : Site → ℕ → Site
+abbrev pub up : Site → ℕ → Site
 up a i = seated a i (record { now = fresh i 7; disk = over (a .seat i .disk) 0 (head i 7); place = length (head i 7) }) []
 
 abbrev all-up : Site
@@ -54,7 +54,7 @@ unfolding opens
 up-reached = goes (goes (goes stays (starts 1 refl refl)) (starts 2 refl refl)) (starts 3 refl refl)
 
 -- Boxes 1 and 3 stand.
-abbrev box-3-stands : State
+abbrev pub box-3-stands : State
 box-3-stands = standing (fresh 3 7)
 
 abbrev one-asks : Site
@@ -70,11 +70,11 @@ both-reached =
     (steps 3 refl (omega (arith, head-nine 3 7)) times-out tt box-3-stands (vote-requests box-3-stands) refl)
 
 -- box 2's yes to box 1
-abbrev yea : Message
+abbrev pub yea : Message
 yea = vote-answer 2 1 1 1
 
 -- box 1's request has come to it
-abbrev asked-by-1 : Event
+abbrev pub asked-by-1 : Event
 asked-by-1 = receives (text request)
 
 comes-to-2 : Comes (both-ask .sent) asked-by-1
@@ -115,14 +115,14 @@ torn-silent = (back [], fails 2 refl is-up-2 asked-by-1 comes-to-2 box-2-votes (
 -- ---- had it left
 
 -- box 2 votes for box 3,
-abbrev box-2-again : State
+abbrev pub box-2-again : State
 box-2-again = voting (taking 1 (fresh 2 7)) 3
 
 abbrev votes-again : Site
 votes-again = stepped (back (yea ∷ [])) 2 box-2-again (vote-answer 2 3 1 1 ∷ [])
 
 -- which leads,
-abbrev box-3-leads : State
+abbrev pub box-3-leads : State
 box-3-leads = settle (leading (adding box-3-stands 2))
 
 abbrev three-leads : Site

@@ -7,10 +7,10 @@
 -- accounts; DisksLaws to SiteAccount, that a site's do, and that each telling has the other's runs, record for record (DisksLaws, ParkOnDisk);
 -- OneLeader to NoAlarms, what follows from accounts: Demand3. BookToday: nothing is lost against an earlier wording of the book.
 -- Last, runs that are shown: a leader (Elects), an order that is committed and handed out (Commits), handed out again after a restart (HandsAgain), a
--- second leader (Succeeds), a conflict that cuts entries (Conflicts), a book of two terms (TwoTerms), and what would happen if a torn step's messages
--- left (Leaks) or a box came back fresh (Forgets). Six must-fail edits are shown false by them: any_term (`Succeeds.terms-differ`), holds_own_term (`Commits.own-term-not-held`),
--- book_of_its_own_term_held and any_leader_holds_the_book (`TwoTerms.own-term-book-not-held`, `whole-book-not-held`),
--- torn_step_sends (`Leaks.leaks`) and restart_forgets (`Forgets.forgets`).
+-- second leader (Succeeds), a conflict that cuts entries (Conflicts), a book of two terms (TwoTerms), a torn head (StartsAgain); and what would happen
+-- if a torn step's messages left (Leaks), a box came back fresh (Forgets), or an event came before the head is whole (Headless). Six must-fail edits are
+-- shown false by them: any_term (`Succeeds.terms-differ`), holds_own_term (`Commits.own-term-not-held`), book_of_its_own_term_held and
+-- any_leader_holds_the_book (`TwoTerms.own-term-book-not-held`, `whole-book-not-held`), torn_step_sends (`Leaks.leaks`) and restart_forgets (`Forgets.forgets`).
 pub mod Park
 pub mod Disks
 pub mod Book
@@ -48,5 +48,7 @@ pub mod HandsAgain
 pub mod Succeeds
 pub mod Conflicts
 pub mod TwoTerms
+pub mod StartsAgain
 pub mod Leaks
 pub mod Forgets
+pub mod Headless

@@ -1,9 +1,8 @@
 -- What follows for the boxes of a run from its accounts: what is handed out makes one book, and every leader holds it. Assumes nothing.
 use Prim.Native.Nat.{ℕ, zero, suc, _≤_, _<_}
 use native.Mathlib.Omega.{arith}
-use mathlib.Core.Path.{_≡_, sym, _∙_}
-use mathlib.Core.Bool.{false}
-use mathlib.Core.List.{List, []}
+use mathlib.Core.Path.{_≡_, _∙_}
+use mathlib.Core.List.{List}
 use Rattle.frames.specs.declared.Entry.{Entry}
 use Rattle.raft.specs.Record.{handed-out}
 use Rattle.history.specs.Begins.{Begins, OneBegins}
@@ -14,9 +13,9 @@ use Rattle.history.specs.LeaderComplete.{leader-complete}
 use Rattle.history.specs.Book.{Covered, nothing, written, sender-holds, one-book}
 use Rattle.history.specs.Later.{Later, covered-later}
 use Rattle.safety.specs.Park.{Leads}
-use Rattle.safety.specs.Book.{Change, book, below, NoneAbove}
+use Rattle.safety.specs.Book.{book, below, NoneAbove}
 use Rattle.safety.specs.Runs.{Runs}
-use Rattle.safety.specs.BookLaws.{Wrote, wrote-later, below-covered, below-nothing, below-all}
+use Rattle.safety.specs.BookLaws.{wrote-later, below-covered, below-nothing, below-all}
 use Rattle.safety.specs.Account.{StandsAs, Account, box-covered}
 
 -- ---- one moment

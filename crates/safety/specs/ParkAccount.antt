@@ -1,16 +1,15 @@
 -- The runs of a park have accounts. Assumes nothing.
 use Prim.Native.Nat.{ℕ}
 use mathlib.Core.Path.{_≡_, refl, ap, subst}
-use mathlib.Core.Bool.{true}
 use mathlib.Core.List.{List, [], _∷_, List·Memᴰ·not-nil}
 use Rattle.frames.specs.Message.{Message}
-use Rattle.raft.specs.Record.{State, fresh, handed-out, is-membership}
+use Rattle.raft.specs.Record.{State, fresh, handed-out}
 use Rattle.journal.specs.Opening.{restarted}
 use Rattle.history.specs.PutLaws.{put-same, put-other}
 use Rattle.history.specs.BeginsLaws.{nothing-begins}
 use Rattle.history.specs.Steps.{fresh-park}
 use Rattle.safety.specs.Park.{Park, start, after, Move, steps, restarts, Run, stays, moves, run-both, Reached}
-use Rattle.safety.specs.Book.{Change, book}
+use Rattle.safety.specs.Book.{book}
 use Rattle.safety.specs.Runs.{moved, moves-of, parks}
 use Rattle.safety.specs.BookLaws.{Wrote}
 use Rattle.safety.specs.Proper.{event-reads, reached-proper}

@@ -1,6 +1,6 @@
--- Each run of a park is one of a site with its disks, for a journal always opens: the telling with disks leaves out nothing that Park allows. And a
--- site's book is a beginning of its park's. Assumes nothing.
-use Prim.Native.Nat.{ℕ, _+_, _≤_}
+-- Each run of a park is one of a site with its disks, for a journal always opens: the telling with disks leaves out nothing that Park allows. And each
+-- run of a site is one of a park, of whose book its own is a beginning. Assumes nothing.
+use Prim.Native.Nat.{ℕ, _+_}
 use native.Mathlib.Omega.{arith}
 use mathlib.Core.Path.{_≡_, refl, sym, ap, _∙_}
 use mathlib.Core.Bool.{true}
@@ -20,58 +20,67 @@ use Rattle.history.specs.Begins.{Begins}
 use Rattle.history.specs.BeginsLaws.{nothing-begins, begins-self, begins-trans}
 use Rattle.history.specs.Put.{put}
 use Rattle.history.specs.PutLaws.{put-same, put-other, put-all}
-use Rattle.safety.specs.Park.{Park, start, Comes, frames, after, steps, restarts, stays, moves, run-both, Reached}
+use Rattle.safety.specs.Park.{Park, start, Comes, frames, after, Move, steps, restarts, stays, moves, run-both, Reached}
 use Rattle.safety.specs.Sent.{Among, wider, among-more}
 use Rattle.safety.specs.Proper.{event-steps}
 use Rattle.safety.specs.Disks.{Seat, Site, built, Started, written, seated, Happens, Goes}
-use Rattle.safety.specs.Book.{writes, book}
-use Rattle.safety.specs.Runs.{moves-of, happened, happened-in}
+use Rattle.safety.specs.Book.{writes, longer, book}
+use Rattle.safety.specs.Runs.{moved, moves-of, happened, happened-in}
 use Rattle.safety.specs.Demand3.{park-safe}
-use Rattle.safety.specs.BookLaws.{longer-either, writes-either}
+use Rattle.safety.specs.ParkAccount.{fresh-hands}
+use Rattle.safety.specs.BookLaws.{longer-either, writes-either, book-silent}
 use Rattle.safety.specs.DisksLaws.{Stored, awaits, lives, torn-head, life-started, started-lives, none-awaits, Mirrors, built-mirrors, happens-on, goes-on}
 
--- A site that has run, with the park's records, and all that was sent in the park.
-pub record Shown (mask : ℕ) (p : Park) : Type 0 where
+-- A site that has run, with the park's records, all that was sent in the park, and its book.
+pub record Shown (mask : ℕ) {p : Park} (r : Reached mask p) : Type 0 where
   pub site : Site
   pub run : Goes mask (built mask) site
   pub same : (i : ℕ) → site .seat i .now ≡ p .box i
   pub known : Among (p .sent) (site .sent)
+  pub one-book : book (happened-in run) ≡ book (moves-of r)
 
 -- One in which box i was started.
-record Ready (mask : ℕ) (p : Park) (i : ℕ) : Type 0 where
-  shown : Shown mask p
+record Ready (mask : ℕ) {p : Park} (r : Reached mask p) (i : ℕ) : Type 0 where
+  shown : Shown mask r
   started : Started (shown .site .seat i)
 
-module _ (mask : ℕ) (p : Park) (x : Shown mask p) (i : ℕ) (m : is-membership i mask ≡ true) where
+module _ (mask : ℕ) {p : Park} (r : Reached mask p) (x : Shown mask r) (i : ℕ) (m : is-membership i mask ≡ true) where
   -- One seat changes as the park's record does.
-  seat-shown : (b : Seat) (t : State) (ms : List Message) → b .now ≡ t → Happens mask (x .site) (seated (x .site) i b ms) → Shown mask (after p i t ms)
-  unfolding seated after
-  seat-shown b t ms e v =
+  seat-shown : (b : Seat) (t : State) (ms : List Message) → b .now ≡ t → (v : Happens mask (x .site) (seated (x .site) i b ms))
+      (w : Move mask p (after p i t ms)) → writes (happened v) ≡ writes (moved w) → Shown mask (moves r w)
+  unfolding seated after happened-in moves-of book
+  seat-shown b t ms e v w same =
       record {
         site = seated (x .site) i b ms;
         run = Goes.goes (x .run) v;
         same = put-all (λ j y. y .now ≡ put (p .box) i t j) (x .site .seat) i b (e ∙ sym (put-same (p .box) i t))
             (λ j n. x .same j ∙ sym (put-other (p .box) i t j n));
         known = among-more (frames ms) (p .sent) (x .site .sent) (x .known);
+        one-book = ap (λ log. longer log (writes (happened v))) (x .one-book) ∙ ap (longer (book (moves-of r))) same;
       }
 
   -- A step of a box that was started writes its line,
-  step-shown : Started (x .site .seat i) → (e : Event) → Comes (p .sent) e → (t : State) (ms : List Message) → step e (p .box i) ≡ done t ms
-      → Shown mask (after p i t ms)
-  step-shown up e c t ms o = seat-shown _ t ms refl (Happens.steps i m up e (wider (x .known) e c) t ms (rw (x .same i) o))
+  step-shown : Started (x .site .seat i) → (e : Event) (c : Comes (p .sent) e) (t : State) (ms : List Message) (o : step e (p .box i) ≡ done t ms)
+      → Shown mask (moves r (steps i m e c t ms o))
+  unfolding happened moved
+  step-shown up e c t ms o =
+      seat-shown _ t ms refl (Happens.steps i m up e (wider (x .known) e c) t ms (rw (x .same i) o)) (steps i m e c t ms o)
+      (ap (λ s. writes (record { before = s; behind = t })) (x .same i))
 
   -- and its restart opens the disk, which opens.
-  restart-shown : Started (x .site .seat i) → Shown mask (after p i (restarted (p .box i)) [])
+  restart-shown : Started (x .site .seat i) → Shown mask (moves r (restarts i m))
+  unfolding happened moved
   restart-shown up =
       let life = started-lives (goes-on mask _ (built-mirrors mask) (x .run) .mirrors .stored i m) up in
-      seat-shown _ (restarted (p .box i)) [] (ap restarted (x .same i)) (Happens.reopens i m _ _ (life-opens i mask _ _ _ life))
+      seat-shown _ (restarted (p .box i)) [] (ap restarted (x .same i)) (Happens.reopens i m _ _ (life-opens i mask _ _ _ life)) (restarts i m)
+      (ap (λ s. writes (record { before = s; behind = restarted s })) (x .same i))
 
-  -- A box that waits for its head is started first.
-  started-shown : Ready mask p i
-  unfolding seated frames
+  -- A box that waits for its head is started first, which writes nothing into the book.
+  started-shown : Ready mask r i
+  unfolding seated frames happened happened-in book
   started-shown = go (goes-on mask _ (built-mirrors mask) (x .run) .mirrors .stored i m)
     where
-      go : Stored i mask (x .site .seat i) → Ready mask p i
+      go : Stored i mask (x .site .seat i) → Ready mask r i
       go (awaits w) =
           record {
             shown = record {
@@ -79,6 +88,7 @@ module _ (mask : ℕ) (p : Park) (x : Shown mask p) (i : ℕ) (m : is-membership
               run = Goes.goes (x .run) (Happens.starts i m (w .nowhere));
               same = put-all (λ j y. y .now ≡ p .box j) (x .site .seat) i _ (sym (w .untouched) ∙ x .same i) (λ j n. x .same j);
               known = x .known;
+              one-book = sym (book-silent _ (book (happened-in (x .run))) (fresh-hands i mask)) ∙ x .one-book;
             };
             started = rw (put-same (x .site .seat) i (record {
               now = fresh i mask;
@@ -88,16 +98,16 @@ module _ (mask : ℕ) (p : Park) (x : Shown mask p) (i : ℕ) (m : is-membership
           }
       go (lives l) = record { shown = x; started = life-started i mask _ _ _ l }
 
--- **Each run of a park is one of a site.**
-pub shown : (mask : ℕ) (p : Park) → Reached mask p → Shown mask p
-unfolding start built
-shown mask p stays = record { site = built mask; run = Goes.stays; same = λ i. refl; known = λ bytes m. m }
-shown mask p (moves {q = q} r (steps i m e c t ms o)) =
-    let ready = started-shown mask q (shown mask q r) i m in
-    step-shown mask q (ready .shown) i m (ready .started) e c t ms o
-shown mask p (moves {q = q} r (restarts i m)) =
-    let ready = started-shown mask q (shown mask q r) i m in
-    restart-shown mask q (ready .shown) i m (ready .started)
+-- **Each run of a park is one of a site, with the same book.**
+pub shown : (mask : ℕ) {p : Park} (r : Reached mask p) → Shown mask r
+unfolding start built happened-in moves-of book
+shown mask stays = record { site = built mask; run = Goes.stays; same = λ i. refl; known = λ bytes m. m; one-book = refl }
+shown mask (moves r (steps i m e c t ms o)) =
+    let ready = started-shown mask r (shown mask r) i m in
+    step-shown mask r (ready .shown) i m (ready .started) e c t ms o
+shown mask (moves r (restarts i m)) =
+    let ready = started-shown mask r (shown mask r) i m in
+    restart-shown mask r (ready .shown) i m (ready .started)
 
 -- **And a box comes back from power that failed at any byte of any step's line:** what `fails` asks of the opening is always so.
 pub always-opens : (mask : ℕ) (a : Site) → Goes mask (built mask) a → (i : ℕ) → is-membership i mask ≡ true → Started (a .seat i) → (e : Event)

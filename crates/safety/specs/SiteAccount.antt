@@ -14,7 +14,7 @@ use Rattle.history.specs.PutLaws.{put-same, put-other}
 use Rattle.history.specs.Steps.{fresh-park}
 use Rattle.safety.specs.Park.{start, Comes, Run}
 use Rattle.safety.specs.Disks.{Seat, Site, built, Started, seated, Happens, starts, tears, steps, fails, reopens, trims, Goes, stays, goes, goes-both}
-use Rattle.safety.specs.Book.{Change, book}
+use Rattle.safety.specs.Book.{book}
 use Rattle.safety.specs.Runs.{happened, happened-in, sites}
 use Rattle.safety.specs.BookLaws.{Wrote}
 use Rattle.safety.specs.Proper.{event-reads, Proper, reached-proper}

@@ -8,7 +8,7 @@ use Rattle.frames.specs.declared.Entry.{Entry}
 use Rattle.frames.specs.Message.{Message, append, append-answer, text}
 use Rattle.raft.specs.Record.{State, handed-out}
 use Rattle.raft.specs.Commit.{settle}
-use Rattle.raft.specs.Sends.{append-to, appends}
+use Rattle.raft.specs.Sends.{appends}
 use Rattle.raft.specs.Order.{ordered}
 use Rattle.raft.specs.Append.{following, joining}
 use Rattle.raft.specs.AppendAnswer.{heard}
