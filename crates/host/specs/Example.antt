@@ -17,8 +17,8 @@ use Rattle.host.specs.Hosted.{HostOn, host-shown}
 
 -- A run of a park, as one of a host.
 module _ (p : Park) (r : Reached 7 p) where
-  at-site : Shown 7 p
-  at-site = shown 7 p r
+  at-site : Shown 7 r
+  at-site = shown 7 r
 
   at-host : HostOn 7 nothing (at-site .site)
   at-host = host-shown 7 (at-site .site) (at-site .run)

@@ -74,8 +74,8 @@ behind = record { next = standing (restarted second-order); messages = vote-requ
 
 -- A park that has come so far.
 module _ (p : Park) (r : Reached 7 p) (leads : p .box 1 ≡ committed) (gave : handed-out (p .box 2) ≡ entry ∷ []) (k : ℕ) where
-  x : Shown 7 p
-  x = shown 7 p r
+  x : Shown 7 r
+  x = shown 7 r
 
   abbrev a : Site
   a = x .site
