@@ -62,6 +62,7 @@ roomy : (a : Asked) (o : Outcome) → ((t : State) (ms : List Message) → o ≡
 roomy a (done t ms) f = rw (le-ltb _ _ (f t ms refl .0), le-ltb _ _ (f t ms refl .1))
 roomy a (refuse n) f = refl
 
+-- So 5 is not answered.
 pub no-5 : {network : List (List ℕ)} {b : Running} (c : Call network b) → good (record-of-box b) ≡ true
     → longest-line ≤ length (c .journal) → longest-messages ≤ length (c .messages) → c .answer .refusal ≡ 5 → ⊥
 no-5 {b = b} c g l m e =

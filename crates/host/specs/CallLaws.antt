@@ -44,11 +44,12 @@ read-front room text left n e f = rw (e, f) (room-front room text)
 
 -- ---- an event
 
--- What was asked, and that the answer's number is the contract's.
+-- What was asked.
 abbrev pub asked : {network : List (List ℕ)} {b : Running} → Call network b → Asked
 asked {b = b} c =
     record { event = c .event; box = b .node .state; terms = b .terms; orders = b .orders; journal = c .journal; messages = c .messages }
 
+-- What the answer says is what the table gives.
 pub answered : {network : List (List ℕ)} {b : Running} (c : Call network b) (n : ℕ) → c .answer .refusal ≡ n → Answers (asked c) n
 answered c n e = sym (ap (λ (x : Called). x .answer .refusal) (c .contract)) ∙ e
 
@@ -68,6 +69,7 @@ pub record Stepped {network : List (List ℕ)} {b : Running} (c : Call network b
   pub long : c .answer .line ≡ length (journaled (record-of-box b) (state-of (c .answer .node .state) (c .terms-left) (c .orders-left)))
   pub leave : frames-in c ≡ frames messages
 
+-- It is so by the contract.
 pub call-steps : {network : List (List ℕ)} {b : Running} (c : Call network b) → c .answer .refusal ≡ 0 → Stepped c
 call-steps {b = b} c z =
     let s = next-record (c .event) (b .node) (b .terms) (b .orders) (c .journal) (c .messages) (c .answer) (c .terms-left) (c .orders-left) (c .journal-left)
@@ -97,6 +99,7 @@ pub record Starting {mask i : ℕ} (c : Start mask i) : Type 0 where
   pub bytes : c .answer .bytes ≡ length (head i mask)
   pub written : head-in c ≡ head i mask
 
+-- So it is, by its contract.
 pub start-fresh : {mask i : ℕ} (c : Start mask i) → c .answer .refusal ≡ 0 → Starting c
 start-fresh {mask} {i} c z =
     let f = subst (Fresh i mask (c .journal)) (sym (c .contract)) (begun-fresh i mask (c .journal) (sym (ap (λ (x : Begun). x .answer .refusal) (c .contract)) ∙ z)) in

@@ -23,9 +23,11 @@ module _ (p : Park) (r : Reached 7 p) where
   at-host : HostOn 7 nothing (at-site .site)
   at-host = host-shown 7 (at-site .site) (at-site .run)
 
+  -- the host that has run so,
   pub lifted : Host
   lifted = at-host .host
 
+  -- and its run
   pub lifted-run : HostRun 7 nothing lifted
   unfolding lifted
   lifted-run = at-host .run
@@ -36,6 +38,7 @@ module _ (p : Park) (r : Reached 7 p) where
     unfolding lifted
     lifted-leads = seat-leads 7 (at-site .site) (at-site .run) i (at-host .host .box i) (at-host .stands .boxes i) term (rw (at-site .same i) l)
 
+    -- and holds the same
     pub lifted-holds : log-in (lifted .box i) ≡ p .box i .log
     unfolding lifted
     lifted-holds =

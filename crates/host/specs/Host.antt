@@ -78,6 +78,7 @@ pub record Start (mask i : ℕ) : Type 0 where
   pub journal-left : List ℕ
   pub contract : Starts i mask journal answer journal-left
 
+-- The head that is handed over.
 abbrev pub head-in : {mask i : ℕ} → Start mask i → List ℕ
 head-in c = take (c .answer .bytes) (c .journal-left)
 
@@ -112,7 +113,7 @@ pub data Acts (mask i : ℕ) (network : List (List ℕ)) : Box → Box → List 
   -- Power fails when so many bytes of the head are written.
   start-fails : (disk : List ℕ) (o : Opening i disk) → o .answer .refusal ≡ 11 → (c : Start mask i) → c .answer .refusal ≡ 0 → (k : ℕ)
       → Acts mask i network (off disk) (off (over disk 0 (take k (head-in c)))) []
-  -- Before the head is written, what is on such a file may be cut off, or a part of it.
+  -- Before a head is written on such a file, what is on it may be cut off, or a part of it.
   clears : (disk : List ℕ) (o : Opening i disk) → o .answer .refusal ≡ 11 → (c : Start mask i) → c .answer .refusal ≡ 0 → (k : ℕ)
       → Acts mask i network (off disk) (off (take k disk)) []
   -- 3: "The line first, then the state, then the messages": a call that answers 0, its line whole.

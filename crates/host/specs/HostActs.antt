@@ -52,7 +52,7 @@ torn-not-back {mask} {i} u back =
 module _ (mask : ℕ) (a : Site) (g : Goes mask (built mask) a) (i : ℕ) where
   -- ---- nothing
 
-  -- What leaves seat and frames as they were is a cut at the file's end.
+  -- What leaves record, file, place and frames as they were, a refused call or an opening, is at the site a cut at the end of the file, which cuts nothing.
   on-idle : is-membership i mask ≡ true → (b : Box) → Stands mask i b (a .seat i) → Follows mask a i b []
   unfolding frames happened
   on-idle m b st =
@@ -338,6 +338,7 @@ module _ (mask : ℕ) (a : Site) (g : Goes mask (built mask) a) (i : ℕ) where
 
   -- ---- whatever it does
 
+  -- An act of any kind: one clause for each.
   pub acts-on : (before after : Box) (left : List (List ℕ)) → Stands mask i before (a .seat i) → Acts mask i (a .sent) before after left
       → Follows mask a i after left
   acts-on before after left (inr u) (starts disk o e c z terms orders) = on-started disk u c z terms orders

@@ -50,12 +50,14 @@ module _ (mask : ℕ) (h : Host) (a : Site) (s : HostStands mask h a) (i : ℕ) 
   stands-idle st =
       record { boxes = put-all (λ j x. Stands mask j x (a .seat j)) (h .box) i b st (λ j n. s .boxes j); network = s .network }
 
+  -- where something happened at the site
   pub stands-moved : (q : Seat) (ms : List Message) → Stands mask i b q
       → HostStands mask (record { box = put (h .box) i b; network = frames ms ++ h .network }) (seated a i q ms)
   unfolding seated
   stands-moved q ms st =
       record { boxes = put-both (Stands mask) (h .box) (a .seat) i b q st (λ j n. s .boxes j); network = ap (λ l. frames ms ++ l) (s .network) }
 
+-- **One turn of a host is one thing that happens at the site.**
 pub turns-on : (mask : ℕ) (h k : Host) (a : Site) → Goes mask (built mask) a → HostStands mask h a → (t : Turns mask h k) → Onward a t
 unfolding turned
 turns-on mask h k a g s (turns i b left act) = go (acts-on mask a g i (h .box i) b left (s .boxes i) (rw (s .network) at act))
@@ -85,6 +87,7 @@ pub record Later {mask : ℕ} {h k : Host} (r : HostRun mask nothing h) (x : AsS
   pub stands : HostStands mask k site
   pub told : turned-in (run-both r v) ≡ happened-in (goes-both (x .run) run)
 
+-- A host's run goes on as the site's does.
 pub later : (mask : ℕ) {h k : Host} (r : HostRun mask nothing h) (x : AsSite r) (v : HostRun mask h k) → Later r x v
 unfolding run-both goes-both turned-in happened-in
 later mask r x stays = record { site = x .site; run = disks.stays; stands = x .stands; told = x .told }
@@ -95,6 +98,7 @@ later mask r x (goes {k = k} {l = l} v t) = go (later mask r x v)
         let o = turns-on mask k l (y .site) (goes-both (x .run) (y .run)) (y .stands) t in
         record { site = o .site; run = disks.goes (y .run) (o .happens); stands = o .stands; told = rw (o .told, y .told) }
 
+-- Before anything was done.
 unfoldable pub nothing-as : (mask : ℕ) → AsSite {mask = mask} stays
 unfolding turned-in happened-in
 nothing-as mask = record { site = built mask; run = disks.stays; stands = nothing-stands mask; told = refl }

@@ -36,6 +36,7 @@ pub record Unstarted (mask i : ℕ) (disk : List ℕ) (s : Seat) : Type 0 where
   pub disk-same : s .disk ≡ disk
   pub place : s .place ≡ 0
 
+-- So a box stands as a seat.
 abbrev pub Stands : (mask i : ℕ) → Box → Seat → Type 0
 Stands mask i (on b) s = Runs mask i b s
 Stands mask i (off disk) s = Down mask i disk s ⊎ Unstarted mask i disk s

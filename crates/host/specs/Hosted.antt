@@ -37,6 +37,7 @@ use Rattle.host.specs.SeenLaws.{runs-good, down-started}
 
 -- ---- each call answers
 
+-- An event at a box, with any room: the answer that the definition gives.
 unfoldable pub the-call : (network : List (List ℕ)) (b : Running) (e : Event) → Comes network e → (journal messages : List ℕ) → Call network b
 the-call network b e c journal messages =
     let x = call e (b .node .state) (b .terms) (b .orders) journal messages in
@@ -53,6 +54,7 @@ the-call network b e c journal messages =
       contract = refl;
     }
 
+-- A start, with any room.
 the-start : (mask i : ℕ) (journal : List ℕ) → Start mask i
 the-start mask i journal =
     let x = begun i mask journal in
@@ -63,6 +65,7 @@ the-start mask i journal =
       contract = refl;
     }
 
+-- An opening, into any arrays.
 the-opening : (i : ℕ) (disk terms orders : List ℕ) → Opening i disk
 the-opening i disk terms orders =
     let x = opens i disk terms orders in
@@ -242,6 +245,7 @@ module _ (mask : ℕ) (h : Host) (a : Site) (g : Goes mask (built mask) a) (i : 
         (record { now = u; disk = written (a .seat i) (take k (journaled (a .seat i .now) x)); place = n }))
         called-record (failed-stands mask a g i (w .box) awake-runs called called-0 k u n) found)
 
+    -- so it is
     pub fail-down : (k : ℕ) (u : State) (n : ℕ) (found : journal.opening i (written (a .seat i) (take k (journaled (a .seat i .now) t))) ≡ journal.opened u n)
         → (disk : List ℕ) × (fail-hosted k u n found .host .box i ≡ off disk)
     unfolding fail-hosted acts-there
@@ -282,5 +286,6 @@ hosted mask h a g s (disks.goes {b = b} {c = c} r v) = go (hosted mask h a g s r
         let y = happens-hosted mask (x .host) b c (goes-both g r) (x .stands) v in
         record { host = y .host; run = run-both (x .run) (y .run); stands = y .stands }
 
+-- **And from the beginning on.**
 pub host-shown : (mask : ℕ) (a : Site) → Goes mask (built mask) a → HostOn mask nothing a
 host-shown mask a r = hosted mask nothing (built mask) disks.stays (nothing-stands mask) r

@@ -61,6 +61,7 @@ pub record SaysYes (held offered : Entry) : Type 0 where
   pub file-opens : opening 2 (box .disk) ≡ opened found count
   pub lacks : found .log ≡ held ∷ []
 
+-- The entry that it holds, and the one that it is offered.
 abbrev pub held : Entry
 held = record { term = 1; order = 50 }
 

@@ -1,6 +1,6 @@
 -- **Every way of opening is the same opening:** the head, and then lines or blocks, come to what `opening` of the whole file comes to: record, log, byte count, refusal
 -- and line number. Assumes nothing.
-use Prim.Native.Nat.{ℕ, suc, _+_}
+use Prim.Native.Nat.{ℕ, suc, _+_, _≤_}
 use native.Mathlib.Nat.{zero-add, add-zero}
 use native.Mathlib.Omega.{arith}
 use mathlib.Core.Path.{_≡_, refl, sym, ap, subst, _∙_}
@@ -8,7 +8,7 @@ use mathlib.Core.Bool.{Bool, true, false, cond}
 use mathlib.Core.List.{List, [], _∷_, _++_, append-assoc, append-nil}
 use lib.Dec.{eqb}
 use lib.ListN.{length, take, drop, length-append, length-take, take-append-drop}
-use lib.Seq.{drop-append-add, drop-drop}
+use lib.Seq.{take-all, drop-append-add, drop-drop}
 use borrow.Author.Tests.{eqb-true, eqb-false}
 use Rattle.raft.specs.Record.{State, fresh}
 use Rattle.raft.specs.Lent.{entries-of}
@@ -48,6 +48,11 @@ none-counted : (bytes : List ℕ) → lines bytes ≡ [] → whole-bytes bytes �
 unfolding strung
 none-counted bytes e =
     omega (arith, ap length (whole-lines bytes ∙ ap strung e), length-take (whole-bytes bytes) bytes, whole-most bytes)
+
+-- Lines that are the same with others behind them have none behind them.
+none-behind : (a b : List (List ℕ)) → a ≡ a ++ b → b ≡ []
+none-behind a [] e = refl
+none-behind a (l ∷ b) e = absurd (omega (arith, ap length e, length-append a (l ∷ b)))
 
 -- ---- where an opening in pieces stands
 
@@ -258,6 +263,16 @@ module _ (i : ℕ) (disk : List ℕ) where
                 at .same ∙ ap (replay (whole-bytes disk) (state-of b terms orders) (suc count)) (further-lines disk place (lines bytes) (cut .rest) (cut .whole) (cut .is))
                 ∙ passed .on (whole-bytes disk) (suc count) _ ∙ rw (long, many);
           }
+
+      -- none is left behind one that reaches the file's end,
+      pub block-ends : r .refusal ≡ 0 → length (drop place disk) ≤ n → lines (drop (place + r .bytes) disk) ≡ []
+      block-ends z l =
+          let passed = subst (λ y. All-passed begun y (lines bytes)) leaves (all-passed begun (lines bytes) (ap (λ (y : Blocks). y .answer .refusal) leaves ∙ z)) in
+          let long : length (strung (lines bytes)) ≡ r .bytes = omega (arith, passed .bytes) in
+          let all : drop place disk ≡ bytes = sym (take-all n (drop place disk) l) in
+          let on = further-lines disk place (lines bytes) (cut .rest) (cut .whole) (cut .is) in
+          rw long at
+          (none-behind (lines bytes) (lines (drop (place + length (strung (lines bytes))) disk)) (sym (ap lines all) ∙ on))
 
       -- or stops at the line that breaks a rule, which is the one that opening names.
       pub block-breaks : (r .refusal ≡ 0 → ⊥) → opening i disk ≡ broken (suc (count + r .lines))

@@ -1,9 +1,9 @@
 -- **Every way of opening is the same opening, in terms of the calls' answers:** what a host has in pieces, by the head and then lines or blocks, is what `open` of the
 -- whole file answers, into whatever arrays. Assumes nothing.
-use Prim.Native.Nat.{ℕ, suc, _+_}
+use Prim.Native.Nat.{ℕ, suc, _+_, _≤_}
 use mathlib.Core.Path.{_≡_}
 use mathlib.Core.List.{List, []}
-use lib.ListN.{take, drop}
+use lib.ListN.{length, take, drop}
 use Rattle.journal.specs.Lines.{lines}
 use Rattle.journal.specs.LinesLaws.{Whole}
 use Rattle.record.specs.declared.Record.{Record}
@@ -12,7 +12,7 @@ use Rattle.opening.specs.declared.Replayed.{Replayed}
 use Rattle.opening.specs.declared.Block.{Block}
 use Rattle.opening.specs.Calls.{heading, Replays, ReplaysLines}
 use Rattle.host.specs.Pieces.{Passed}
-use Rattle.host.specs.PiecesLaws.{passed-at, pieces-open, block-breaks, breaking-line, head-refused}
+use Rattle.host.specs.PiecesLaws.{passed-at, pieces-open, block-ends, block-breaks, breaking-line, head-refused}
 use Rattle.host.specs.Host.{Opening}
 use Rattle.host.specs.CallLaws.{open-found, open-headless, open-broken}
 
@@ -26,6 +26,12 @@ module _ (i : ℕ) (disk : List ℕ) (c : Opening i disk) where
     pub both-open : lines (drop place disk) ≡ []
         → (c .answer .refusal ≡ 0) × (state-of (c .answer .state) (c .terms-left) (c .orders-left) ≡ state-of b terms orders) × (c .answer .bytes ≡ place)
     both-open e = open-found c (state-of b terms orders) place (pieces-open i disk b terms orders place count p e)
+
+    -- (So it is where the last block, that up to the file's end, answers 0.)
+    pub none-left : (n : ℕ) (r : Block) (terms' orders' : List ℕ) → ReplaysLines b (take n (drop place disk)) terms orders r terms' orders'
+        → r .refusal ≡ 0 → length (drop place disk) ≤ n → lines (drop (place + r .bytes) disk) ≡ []
+    none-left n r terms' orders' e z l =
+        block-ends i disk b terms orders place count (passed-at i disk b terms orders place count p) n r terms' orders' e z l
 
     -- A block that stops, behind so many lines: 10, and the number of the next.
     pub both-stop : (n : ℕ) (r : Block) (terms' orders' : List ℕ) → ReplaysLines b (take n (drop place disk)) terms orders r terms' orders'

@@ -33,11 +33,12 @@ seen-seat mask i (off disk) s (inl d) = ap (λ o. found-or o (fresh i mask)) (d 
 seen-seat mask i (off disk) s (inr u) =
     ap (λ o. found-or o (fresh i mask)) (ap (opening i) (u .torn) ∙ torn-headless i mask (u .count) (u .short)) ∙ sym (u .now)
 
--- A box that leads, by its struct, leads by its record; and its log is its record's.
+-- A box that leads, by its struct, leads by its record.
 pub leads-seen : (mask i : ℕ) (x : Box) (term : ℕ) → Leads x term → park.Leads (seen mask i x) term
 leads-seen mask i (on b) term l = record { role = l .0; in-term = l .1 }
 leads-seen mask i (off disk) term l = absurd l
 
+-- And its log is its record's.
 pub leader-log : (mask i : ℕ) (x : Box) (term : ℕ) → Leads x term → log-in x ≡ seen mask i x .log
 leader-log mask i (on b) term l = refl
 leader-log mask i (off disk) term l = absurd l
@@ -66,6 +67,7 @@ module _ (mask : ℕ) (a : Site) (g : Goes mask (built mask) a) (i : ℕ) where
   down-lives : (disk : List ℕ) → Down mask i disk (a .seat i) → Life i mask (a .seat i .now) (a .seat i .place) (a .seat i .disk)
   down-lives disk d = opened-lives {b = a .seat i} (stood .mirrors .stored i (d .member)) (ap (opening i) (d .disk-same) ∙ d .opens)
 
+  -- so it was started
   pub down-started : (disk : List ℕ) → Down mask i disk (a .seat i) → Started (a .seat i)
   down-started disk d = life-started i mask _ _ _ (down-lives disk d)
 
