@@ -27,11 +27,12 @@ ghost use Rattle.record.specs.Sizes.{is-silent, line-bytes, line-size, sent-siz
 pub fn refused(n: Record, number: u8) -> Step
     ensures { λ r. ⌜ r ≡ record { refusal = number; state = n; line = 0; sent = 0 } ⌝ }
 {
+    let nothing = 0;
     Step {
         refusal: number,
         state: n,
-        line: 0,
-        sent: 0,
+        line: nothing,
+        sent: nothing,
     }
 }
 
@@ -187,9 +188,9 @@ pub fn finish_adding(
 {
     let next = d.next;
     let send = d.send;
-    let sizes = measured(n, d, journal.len(), messages.len());
-    if sizes.refusal != 0 {
-        return refused(n, sizes.refusal);
+    let known = measured(n, d, journal.len(), messages.len());
+    if known.refusal != 0 {
+        return refused(n, known.refusal);
     }
     let first = d.first as usize;
     rules::store(
@@ -200,12 +201,12 @@ pub fn finish_adding(
         first,
         d.count as usize,
     );
-    put_line(journal, sizes.line, next, d.kept, &terms[..], &orders[..]);
+    put_line(journal, known.line, next, d.kept, &terms[..], &orders[..]);
     put_messages(messages, send, next, &terms[..], &orders[..]);
     Step {
         refusal: 0,
         state: next,
-        line: sizes.line,
-        sent: sizes.sent,
+        line: known.line,
+        sent: known.sent,
     }
 }
