@@ -8,7 +8,8 @@
 -- OneLeader to NoAlarms, what follows from accounts: Demand3. BookToday: nothing is lost against an earlier wording of the book.
 -- Last, runs that are shown: a leader (Elects), an order that is committed and handed out (Commits), handed out again after a restart (HandsAgain), a
 -- second leader (Succeeds), a conflict that cuts entries (Conflicts), a book of two terms (TwoTerms), a torn head (StartsAgain); and what would happen
--- if a torn step's messages left (Leaks), a box came back fresh (Forgets), or an event came before the head is whole (Headless). Six must-fail edits are
+-- if a torn step's messages left (Leaks), a box came back fresh (Forgets), the old struct were kept with the new log (Loses), or an event came before the head is whole
+-- (Headless). Six must-fail edits are
 -- shown false by them: any_term (`Succeeds.terms-differ`), holds_own_term (`Commits.own-term-not-held`), book_of_its_own_term_held and
 -- any_leader_holds_the_book (`TwoTerms.own-term-book-not-held`, `whole-book-not-held`), torn_step_sends (`Leaks.leaks`) and restart_forgets (`Forgets.forgets`).
 pub mod Park
@@ -51,4 +52,5 @@ pub mod TwoTerms
 pub mod StartsAgain
 pub mod Leaks
 pub mod Forgets
+pub mod Loses
 pub mod Headless
