@@ -16,11 +16,11 @@ use Rattle.raft.specs.Commit.{settle}
 use Rattle.raft.specs.Sends.{vote-request-to, append-after, append-to, vote-requests, appends}
 use Rattle.raft.specs.Outcome.{done}
 use Rattle.raft.specs.Timeout.{last-of-terms, standing, timeout}
-use Rattle.raft.specs.Winning.{leading}
-use Rattle.raft.specs.Order.{ordered, order}
+use Rattle.raft.specs.Winning.{leading, winner}
+use Rattle.raft.specs.Order.{ordered, blank, order}
 use Rattle.raft.specs.Prompt.{prompt}
 use Rattle.raft.specs.RecordLaws.{Good, good-facts, member-facts, leader-sent}
-use Rattle.raft.specs.StepLaws.{in-order-most, follows-facts, good-standing, good-settle, good-ordered, good-won, timeout-ends, order-ends, prompt-ends}
+use Rattle.raft.specs.StepLaws.{in-order-most, follows-facts, good-standing, good-settle, good-ordered, winner-ends, winner-leads, good-won, timeout-ends, order-ends, prompt-ends}
 use Rattle.raft.specs.SendLaws.{in-order-drop, in-order-take, term-most, All, Obey, vote-requests-all, appends-all}
 
 -- ---- what holds of each part of a list
@@ -71,10 +71,14 @@ pub settle-fits : (s : State) → Fits s → Fits (settle s)
 unfolding settle
 settle-fits s f = record { term = f .term; orders = f .orders }
 
--- and that takes an order of 8 bytes.
+-- that takes an order of 8 bytes,
 pub ordered-fits : (s : State) (o : ℕ) → Fits s → o < 18446744073709551616 → Fits (ordered s o)
 unfolding ordered
 ordered-fits s o f b = record { term = f .term; orders = all-more eight-bytes (s .log) _ (f .orders) b }
+
+-- and that wins.
+pub winner-fits : (s : State) → Fits s → Fits (winner s)
+winner-fits s f = winner-ends Fits s (leading-fits s f) (λ l. ordered-fits (leading s) blank (leading-fits s f) (omega arith))
 
 -- ---- one message
 
@@ -137,11 +141,11 @@ settled-sized s g f r = (settle-fits s f, appends-sized (settle s) (good-settle 
 
 -- What a timeout comes to fits, the record and the messages,
 pub timeout-fits : (s : State) → good s ≡ true → Fits s → (t : State) (ms : List Message) → timeout s ≡ done t ms → Fits t × Sized ms
-unfolding All leading
+unfolding All
 timeout-fits s h f =
     let g = good-facts s h in
     timeout-ends (λ t ms. Fits t × Sized ms) s (λ r. (f, tt))
-    (λ c m. settled-sized (leading (standing s)) (good-won s g) (leading-fits _ (standing-fits s f (c .early))) refl)
+    (λ c m. settled-sized (winner (standing s)) (good-won s g) (winner-fits _ (standing-fits s f (c .early))) (winner-leads _))
     (λ c m. (standing-fits s f (c .early), vote-requests-sized (standing s) (good-standing s g) (standing-fits s f (c .early))))
 
 -- and what an order of 8 bytes comes to,

@@ -6,9 +6,10 @@ pub mod Commit
 pub mod Sends
 pub mod Journal
 pub mod Outcome
+pub mod Led
+pub mod Order
 pub mod Winning
 pub mod Timeout
-pub mod Order
 pub mod Prompt
 pub mod AnyMessage
 pub mod VoteRequest

@@ -25,7 +25,7 @@ use Rattle.raft.specs.Record.{State, follower, candidate, leader, last-i
 use Rattle.raft.specs.Commit.{settle}
 use Rattle.raft.specs.Sends.{append-to}
 use Rattle.raft.specs.Outcome.{Outcome, done, refuse}
-use Rattle.raft.specs.Winning.{leading, won}
+use Rattle.raft.specs.Winning.{winner, won}
 use Rattle.raft.specs.AnyMessage.{taking, taken}
 use Rattle.raft.specs.VoteRequest.{grants, voting, asked, vote-answer-to, on-vote-request}
 use Rattle.raft.specs.Receive.{sender, receiver, term-of, stale, current, deliver, is-for, arrive, arrive-read, receive}
@@ -35,7 +35,7 @@ use Rattle.raft.specs.AppendAnswer.{match-after, next-heard, heard, send
 use Rattle.raft.specs.MajorityLaws.{within-or, holds-or}
 use Rattle.raft.specs.CommitLaws.{by-test}
 use Rattle.raft.specs.RecordLaws.{box-range, range-box, Good, good-facts, facts-good, member-facts, self-voted, leader-sent}
-use Rattle.raft.specs.StepLaws.{in-order-later, follows-facts, facts-follow, own-bit, none-of-box, good-leading, good-settle, same-done, no-done, Led}
+use Rattle.raft.specs.StepLaws.{in-order-later, follows-facts, facts-follow, own-bit, none-of-box, good-winner, good-settle, same-done, no-done, Led}
 use Rattle.raft.specs.SendLaws.{in-order-drop}
 use Rattle.raft.specs.JoinLaws.{stop-offered, joined-same, joined-long, passes-long, lacks-not}
 
@@ -98,7 +98,7 @@ pub ends-refuse : (P : State → List Message → Type 0) (n : ℕ) → Ends P (
 ends-refuse P n t ms e = no-done n t ms e
 
 -- a box that won settles its commit and sends appends that carry it
-ends-won : (P : State → List Message → Type 0) (s : State) → Led P (leading s) → Ends P (won s)
+ends-won : (P : State → List Message → Type 0) (s : State) → Led P (winner s) → Ends P (won s)
 unfolding won
 ends-won P s p = ends-done P _ _ p
 
@@ -150,7 +150,7 @@ count-facts s term reply l h =
 
 -- What holds of a box that wins by it, of one that does not, and of one that only takes the term, holds of a vote answer's end.
 pub vote-answer-ends : (P : State → List Message → Type 0) (s : State) (from to term reply : ℕ)
-    → (Counts s term reply → majority (s .members) (adding s from .votes) ≡ true → Led P (leading (adding s from)))
+    → (Counts s term reply → majority (s .members) (adding s from .votes) ≡ true → Led P (winner (adding s from)))
     → (Counts s term reply → majority (s .members) (adding s from .votes) ≡ false → P (adding s from) [])
     → P (taken term s) []
     → Ends P (deliver (vote-answer from to term reply) s)
@@ -549,9 +549,9 @@ good-counted s from term reply g d c =
     good-adding s from g (c .stands) (d .least) (d .most) (other-held (s .me) (s .members) from (d .other) .1)
 
 -- and so is one that wins by it.
-pub good-elected : (s : State) (from term reply : ℕ) → Good s → Sender s from term → Counts s term reply → Good (leading (adding s from))
+pub good-elected : (s : State) (from term reply : ℕ) → Good s → Sender s from term → Counts s term reply → Good (winner (adding s from))
 unfolding adding
-good-elected s from term reply g d c = good-leading (adding s from) (good-counted s from term reply g d c) (c .stands)
+good-elected s from term reply g d c = good-winner (adding s from) (good-counted s from term reply g d c) (c .stands)
 
 -- A box that joins what a frame offers is good.
 pub good-joined : (s : State) (term index prior commit : ℕ) (es : List Entry) → Good s → s .term ≤ term

@@ -15,7 +15,7 @@ use Rattle.raft.specs.Record.{State, good}
 use Rattle.raft.specs.Commit.{settle}
 use Rattle.raft.specs.Sends.{append-to}
 use Rattle.raft.specs.Outcome.{done}
-use Rattle.raft.specs.Winning.{leading}
+use Rattle.raft.specs.Winning.{winner}
 use Rattle.raft.specs.AnyMessage.{taking, taken}
 use Rattle.raft.specs.VoteRequest.{voting, vote-answer-to}
 use Rattle.raft.specs.VoteAnswer.{adding}
@@ -24,8 +24,9 @@ use Rattle.raft.specs.AppendAnswer.{heard}
 use Rattle.raft.specs.Receive.{deliver, sender, receive, term-of}
 use Rattle.raft.specs.CommitLaws.{by-test}
 use Rattle.raft.specs.RecordLaws.{Good, good-facts, member-facts}
+use Rattle.raft.specs.StepLaws.{winner-leads}
 use Rattle.raft.specs.SendLaws.{start-there, append-obeys, All, Obey, settled-obey}
-use Rattle.raft.specs.FitLaws.{all-take, all-drop, eight-bytes, Fits, leading-fits, settle-fits, append-sized, Sized, settled-sized}
+use Rattle.raft.specs.FitLaws.{all-take, all-drop, eight-bytes, Fits, winner-fits, settle-fits, append-sized, Sized, settled-sized}
 use Rattle.raft.specs.ReceiveLaws.{taken-by, taken-least, Ends, vote-request-ends, vote-answer-ends, append-ends, Hears, settled-heard, append-answer-ends, Sender}
 use Rattle.raft.specs.ReceiveLaws.{Arrives, receive-ends, sent-by, offer-facts, good-taken, good-following, good-granted, good-elected, good-joined, good-settled-heard}
 
@@ -56,7 +57,7 @@ again-obeys s from term reply index g d h =
 
 -- What a message that arrives makes a good record send obeys,
 pub deliver-obeys : (s : State) → Good s → (m : Message) → Arrives s m → Ends (λ t ms. Obey ms) (deliver m s)
-unfolding sender term-of All voting following joining leading
+unfolding sender term-of All voting following joining
 deliver-obeys s g (vote-request from to term index prior) a =
     let d = sent-by s (vote-request from to term index prior) a in
     let e : 1 ≤ taken term s .term = omega (arith, taken-least term s) in
@@ -66,7 +67,7 @@ deliver-obeys s g (vote-request from to term index prior) a =
 deliver-obeys s g (vote-answer from to term reply) a =
     let d = sent-by s (vote-answer from to term reply) a in
     vote-answer-ends (λ t ms. Obey ms) s from to term reply
-    (λ c m. settled-obey (leading (adding s from)) (good-elected s from term reply g d c) refl) (λ c m. tt) tt
+    (λ c m. settled-obey (winner (adding s from)) (good-elected s from term reply g d c) (winner-leads _)) (λ c m. tt) tt
 deliver-obeys s g (append from to term index prior commit es) a =
     let d = sent-by s (append from to term index prior commit es) a in
     let o = offer-facts from to term index prior commit es (a .obeyed) in
@@ -179,7 +180,7 @@ again-sized s from term reply index g d h f =
 
 -- What a message that arrives comes to fits, the record and the messages,
 pub deliver-fits : (s : State) → Good s → Fits s → (m : Message) → Arrives s m → Ends (λ t ms. Fits t × Sized ms) (deliver m s)
-unfolding sender term-of All leading
+unfolding sender term-of All
 deliver-fits s g f (vote-request from to term index prior) a =
     let d = sent-by s (vote-request from to term index prior) a in
     let u = taken-fits term s f (term-sized (vote-request from to term index prior) (a .fits)) in
@@ -191,7 +192,7 @@ deliver-fits s g f (vote-answer from to term reply) a =
     let d = sent-by s (vote-answer from to term reply) a in
     let u = taken-fits term s f (term-sized (vote-answer from to term reply) (a .fits)) in
     vote-answer-ends (λ t ms. Fits t × Sized ms) s from to term reply
-    (λ c m. settled-sized (leading (adding s from)) (good-elected s from term reply g d c) (leading-fits _ (adding-fits s from f)) refl)
+    (λ c m. settled-sized (winner (adding s from)) (good-elected s from term reply g d c) (winner-fits _ (adding-fits s from f)) (winner-leads _))
     (λ c m. (adding-fits s from f, tt)) (u, tt)
 deliver-fits s g f (append from to term index prior commit es) a =
     let d = sent-by s (append from to term index prior commit es) a in

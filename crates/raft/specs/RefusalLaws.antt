@@ -13,7 +13,7 @@ use Rattle.raft.specs.Record.{State, leader, last-index}
 use Rattle.raft.specs.Outcome.{Outcome, done, refuse}
 use Rattle.raft.specs.Timeout.{last-of-terms, timeout}
 use Rattle.raft.specs.Winning.{won}
-use Rattle.raft.specs.Order.{order}
+use Rattle.raft.specs.Order.{is-full, blank, order}
 use Rattle.raft.specs.Prompt.{prompt}
 use Rattle.raft.specs.AnyMessage.{taken}
 use Rattle.raft.specs.VoteAnswer.{counts, counted, on-vote-answer}
@@ -52,11 +52,12 @@ timeout-numbered s =
     (by-test (eqb (s .term) last-of-terms) _ _ (numbers 9 (omega arith))
     (by-test (majority (s .members) (bit (s .me))) _ _ (ends _ _) (ends _ _)))
 
--- 3, then 4
+-- 3, then 13, then 4
 pub order-numbered : (o : ℕ) (s : State) → Numbered (order o s)
 unfolding order
 order-numbered o s =
-    by-test (eqb (s .role) leader) _ _ (by-test (leb log-limit (last-index s)) _ _ (numbers 4 (omega arith)) (ends _ _))
+    by-test (eqb (s .role) leader) _ _
+    (by-test (eqb o blank) _ _ (numbers 13 (omega arith)) (by-test (is-full s) _ _ (numbers 4 (omega arith)) (ends _ _)))
     (numbers 3 (omega arith))
 
 pub prompt-numbered : (s : State) → Numbered (prompt s)

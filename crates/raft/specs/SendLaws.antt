@@ -16,11 +16,11 @@ use Rattle.raft.specs.Commit.{settle}
 use Rattle.raft.specs.Sends.{vote-request-to, append-after, append-to, to-others, vote-requests, appends}
 use Rattle.raft.specs.Outcome.{done}
 use Rattle.raft.specs.Timeout.{standing, timeout}
-use Rattle.raft.specs.Winning.{leading}
+use Rattle.raft.specs.Winning.{winner}
 use Rattle.raft.specs.Order.{ordered, order}
 use Rattle.raft.specs.Prompt.{prompt}
 use Rattle.raft.specs.RecordLaws.{range-box, Good, good-facts, member-facts, self-voted, leader-sent}
-use Rattle.raft.specs.StepLaws.{in-order-most, follows-facts, facts-follow, good-standing, good-settle, good-ordered, good-won, timeout-ends, order-ends, prompt-ends}
+use Rattle.raft.specs.StepLaws.{in-order-most, follows-facts, facts-follow, good-standing, good-settle, good-ordered, winner-leads, good-won, timeout-ends, order-ends, prompt-ends}
 
 -- ---- the entry rule over parts of a log
 
@@ -162,10 +162,10 @@ settled-obey s g r = appends-obey (settle s) (good-settle s g) r
 
 -- What a timeout of a good record sends obeys,
 pub timeout-obeys : (s : State) → good s ≡ true → (t : State) (ms : List Message) → timeout s ≡ done t ms → Obey ms
-unfolding All leading
+unfolding All
 timeout-obeys s h =
     let g = good-facts s h in
-    timeout-ends (λ t ms. Obey ms) s (λ r. tt) (λ c m. settled-obey (leading (standing s)) (good-won s g) refl)
+    timeout-ends (λ t ms. Obey ms) s (λ r. tt) (λ c m. settled-obey (winner (standing s)) (good-won s g) (winner-leads _))
     (λ c m. vote-requests-obey s g)
 
 -- and what an order sends,

@@ -19,8 +19,9 @@ use Rattle.raft.specs.Commit.{highest, settled, settle}
 use Rattle.raft.specs.Sends.{vote-requests, appends}
 use Rattle.raft.specs.Outcome.{done, refuse}
 use Rattle.raft.specs.Timeout.{last-of-terms, standing, timeout}
-use Rattle.raft.specs.Winning.{next-after, leading, led, won}
-use Rattle.raft.specs.Order.{ordered, order}
+use Rattle.raft.specs.Led.{led}
+use Rattle.raft.specs.Order.{is-full, ordered, blank, order}
+use Rattle.raft.specs.Winning.{next-after, leading, with-blank, winner, won}
 use Rattle.raft.specs.Prompt.{prompt}
 use Rattle.raft.specs.RecordLaws.{at-box, range-box, sent-facts, Good, good-facts, facts-good, Member, member-facts, self-voted}
 use Rattle.raft.specs.CommitLaws.{settled-most}
@@ -175,6 +176,29 @@ good-ordered s o g r l =
       sent = λ i l h. progress-grows (sends-to s i) (last-index s) _ _ _ (rw length-append (omega arith)) (g .sent i l h);
     }
 
+-- ---- a box that wins
+
+-- It leads, and where there is room the blank is behind its log: what holds of both holds of it.
+pub winner-ends : (P : State → Type 0) (s : State) → P (leading s) → (last-index s < log-limit → P (ordered (leading s) blank)) → P (winner s)
+unfolding winner with-blank is-full leading
+winner-ends P s none room = go (leb log-limit (last-index s)) refl
+  where
+    go : (b : Bool) → leb log-limit (last-index s) ≡ b → P (cond b (leading s) (ordered (leading s) blank))
+    go true e = none
+    go false e = room (leb-false _ _ e)
+
+-- It leads.
+pub winner-leads : (s : State) → winner s .role ≡ leader
+unfolding leading ordered
+winner-leads s = winner-ends (λ t. t .role ≡ leader) s refl (λ l. refl)
+
+-- A candidate that wins is good.
+pub good-winner : (s : State) → Good s → s .role ≡ candidate → Good (winner s)
+unfolding leading
+good-winner s g r =
+    let leads = good-leading s g r in
+    winner-ends Good s leads (λ l. good-ordered (leading s) blank leads refl l)
+
 -- ---- the events, case by case
 
 -- what holds of an outcome's record and messages holds of those that it is said to have
@@ -203,7 +227,7 @@ led-carries s t ms e = same-done (λ u ns. ns ≡ appends u) (settle s) t (appen
 
 -- What holds of each end of a timeout holds of its record and messages.
 pub timeout-ends : (P : State → List Message → Type 0) (s : State) → (s .role ≡ leader → P s [])
-    → (Stands s → majority (s .members) (bit (s .me)) ≡ true → Led P (leading (standing s)))
+    → (Stands s → majority (s .members) (bit (s .me)) ≡ true → Led P (winner (standing s)))
     → (Stands s → majority (s .members) (bit (s .me)) ≡ false → P (standing s) (vote-requests (standing s)))
     → (t : State) (ms : List Message) → timeout s ≡ done t ms → P t ms
 unfolding timeout won
@@ -223,14 +247,15 @@ timeout-ends P s leads wins stands t ms =
 pub order-ends : (P : State → List Message → Type 0) (o : ℕ) (s : State)
     → (s .role ≡ leader → last-index s < log-limit → Led P (ordered s o))
     → (t : State) (ms : List Message) → order o s ≡ done t ms → P t ms
-unfolding order
-order-ends P o s takes t ms = go (eqb (s .role) leader) refl (leb log-limit (last-index s)) refl
+unfolding order is-full
+order-ends P o s takes t ms = go (eqb (s .role) leader) refl (eqb o blank) (leb log-limit (last-index s)) refl
   where
-    go : (a : Bool) → eqb (s .role) leader ≡ a → (b : Bool) → leb log-limit (last-index s) ≡ b
-        → cond a (cond b (refuse 4) (led (ordered s o))) (refuse 3) ≡ done t ms → P t ms
-    go true p true q e = no-done 4 t ms e
-    go true p false q e = same-done P _ t _ ms e (takes (eqb-true _ _ p) (leb-false _ _ q))
-    go false p b q e = no-done 3 t ms e
+    go : (a : Bool) → eqb (s .role) leader ≡ a → (z b : Bool) → leb log-limit (last-index s) ≡ b
+        → cond a (cond z (refuse 13) (cond b (refuse 4) (led (ordered s o)))) (refuse 3) ≡ done t ms → P t ms
+    go true p true b q e = no-done 13 t ms e
+    go true p false true q e = no-done 4 t ms e
+    go true p false false q e = same-done P _ t _ ms e (takes (eqb-true _ _ p) (leb-false _ _ q))
+    go false p z b q e = no-done 3 t ms e
 
 -- and of a prompt.
 pub prompt-ends : (P : State → List Message → Type 0) (s : State) → (s .role ≡ leader → P s (appends s))
@@ -245,9 +270,9 @@ prompt-ends P s sends t ms = go (eqb (s .role) leader) refl
 -- ---- A good record stays good
 
 -- A box that won by its own vote is good.
-pub good-won : (s : State) → Good s → Good (leading (standing s))
+pub good-won : (s : State) → Good s → Good (winner (standing s))
 unfolding standing
-good-won s g = good-leading (standing s) (good-standing s g) refl
+good-won s g = good-winner (standing s) (good-standing s g) refl
 
 -- over a timeout,
 pub timeout-good : (s : State) → good s ≡ true → (t : State) (ms : List Message) → timeout s ≡ done t ms → good t ≡ true
