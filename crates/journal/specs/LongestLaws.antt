@@ -17,16 +17,16 @@ use Rattle.raft.specs.Record.{State, is-other, good}
 use Rattle.raft.specs.Commit.{settle}
 use Rattle.raft.specs.Sends.{vote-request-to, append-to, to-others, vote-requests, appends, texts}
 use Rattle.raft.specs.Journal.{same-stored, line-of, journaled}
-use Rattle.raft.specs.Winning.{leading}
+use Rattle.raft.specs.Winning.{leading, winner}
 use Rattle.raft.specs.Timeout.{standing, timeout}
-use Rattle.raft.specs.Order.{ordered, order}
+use Rattle.raft.specs.Order.{ordered, blank, order}
 use Rattle.raft.specs.Prompt.{prompt}
 use Rattle.raft.specs.VoteAnswer.{adding}
 use Rattle.raft.specs.Receive.{deliver, receive}
 use Rattle.raft.specs.Event.{Event, times-out, takes-order, is-prompted, receives, step}
 use Rattle.raft.specs.CommitLaws.{by-test}
 use Rattle.raft.specs.RecordLaws.{good-facts, Member, member-facts}
-use Rattle.raft.specs.StepLaws.{timeout-ends, order-ends, prompt-ends}
+use Rattle.raft.specs.StepLaws.{winner-ends, timeout-ends, order-ends, prompt-ends}
 use Rattle.raft.specs.SendLaws.{All, Obey}
 use Rattle.raft.specs.ReceiveLaws.{Ends, vote-request-ends, vote-answer-ends, append-ends, append-answer-ends, Arrives, receive-ends, offer-facts}
 use Rattle.raft.specs.EventLaws.{step-obeys}
@@ -110,11 +110,17 @@ appends-six : (s : State) → Member (s .me) (s .members) → Six s (appends s)
 unfolding appends
 appends-six s m = others-fewer s (append-to s) 1 boxes (m .least) (omega arith)
 
+-- So does a box that wins.
+winner-six : (s : State) → Member (s .me) (s .members) → Six (settle (winner s)) (appends (settle (winner s)))
+unfolding settle leading ordered
+winner-six s m =
+    winner-ends (λ w. Six (settle w) (appends (settle w))) s (appends-six (settle (leading s)) m) (λ l. appends-six (settle (ordered (leading s) blank)) m)
+
 -- A timeout sends no others, and leaves the box among its members;
 timeout-six : (s : State) → Member (s .me) (s .members) → Ends Six (timeout s)
-unfolding settle leading standing
+unfolding standing
 timeout-six s m =
-    timeout-ends Six s (λ r. omega arith) (λ c w. appends-six (settle (leading (standing s))) m) (λ c w. requests-six (standing s) m)
+    timeout-ends Six s (λ r. omega arith) (λ c w. winner-six (standing s) m) (λ c w. requests-six (standing s) m)
 
 -- so does an order,
 order-six : (o : ℕ) (s : State) → Member (s .me) (s .members) → Ends Six (order o s)
@@ -127,11 +133,11 @@ prompt-six s m = prompt-ends Six s (λ r. appends-six s m)
 
 -- A message that arrives gets at most one answer, or makes a leader that sends appends,
 deliver-six : (s : State) → Member (s .me) (s .members) → (m : Message) → Arrives s m → Ends Six (deliver m s)
-unfolding settle leading adding
+unfolding adding
 deliver-six s m (vote-request from to term index prior) a =
     vote-request-ends Six s from to term index prior (λ y. omega arith) (omega arith)
 deliver-six s m (vote-answer from to term reply) a =
-    vote-answer-ends Six s from to term reply (λ c w. appends-six (settle (leading (adding s from))) m) (λ c w. omega arith) (omega arith)
+    vote-answer-ends Six s from to term reply (λ c w. winner-six (adding s from) m) (λ c w. omega arith) (omega arith)
 deliver-six s m (append from to term index prior commit es) a =
     append-ends Six s from to term index prior commit es (λ l. omega arith) (λ l n. omega arith) (λ l n c. omega arith)
 deliver-six s m (append-answer from to term reply index) a =

@@ -4,7 +4,7 @@ use Prim.Native.Nat.{ℕ, _+_, _≤_, _<_}
 use native.Mathlib.Omega.{arith}
 use mathlib.Core.Path.{_≡_, refl, sym, _∙_}
 use mathlib.Core.Bool.{Bool, true, false, _||_}
-use mathlib.Core.List.{List, [], _∷_}
+use mathlib.Core.List.{List, [], _∷_, _++_}
 use lib.Dec.{eqb}
 use lib.ListN.{length, length-append}
 use borrow.Author.Tests.{eqb-true}
@@ -14,7 +14,7 @@ use Rattle.frames.specs.Message.{Message, vote-request, vote-answer, append, ap
 use Rattle.raft.specs.Record.{State}
 use Rattle.raft.specs.Journal.{kept}
 use Rattle.raft.specs.Commit.{settle}
-use Rattle.raft.specs.Winning.{leading}
+use Rattle.raft.specs.Winning.{leading, winner}
 use Rattle.raft.specs.Timeout.{standing, timeout}
 use Rattle.raft.specs.Order.{ordered, order}
 use Rattle.raft.specs.Prompt.{prompt}
@@ -26,7 +26,7 @@ use Rattle.raft.specs.AppendAnswer.{heard}
 use Rattle.raft.specs.Receive.{sender, term-of, deliver, receive}
 use Rattle.raft.specs.Event.{Event, times-out, takes-order, is-prompted, receives, step}
 use Rattle.raft.specs.RecordLaws.{Good, self-voted}
-use Rattle.raft.specs.StepLaws.{timeout-ends, order-ends, prompt-ends}
+use Rattle.raft.specs.StepLaws.{winner-ends, timeout-ends, order-ends, prompt-ends}
 use Rattle.raft.specs.JoinLaws.{kept-self, kept-more, lacks-not}
 use Rattle.raft.specs.ReceiveLaws.{taken-by, taken-least, taken-keeps, Ends, Arrives, receive-ends, sent-by, offer-facts}
 use Rattle.raft.specs.ReceiveLaws.{vote-request-ends, vote-answer-ends, append-ends, append-answer-ends}
@@ -61,28 +61,41 @@ moved-up s term vote l =
       few = omega (arith, kept-self (s .log));
     }
 
+-- An entry behind the log is one more to write.
+moved-adding : (s : State) (me members term vote : ℕ) (e : Entry) → 1 ≤ term → Moves s me members term vote (s .log)
+    → Moves s me members term vote (s .log ++ (e ∷ []))
+moved-adding s me members term vote e l m =
+    record {
+      mine = m .mine;
+      ours = m .ours;
+      least = λ z. absurd (omega arith);
+      rises = m .rises;
+      stays = m .stays;
+      few = rw (kept-more (s .log) (e ∷ []), length-append) (omega arith);
+    }
+
+-- A box that wins adds the blank, or nothing, to what it has moved.
+moved-winner : (s t : State) → t .log ≡ s .log → 1 ≤ t .term → Moved s t → Moved s (settle (winner t))
+unfolding settle leading ordered
+moved-winner s t same l m =
+    winner-ends (λ w. Moved s (settle w)) t m
+    (λ room. rw same (moved-adding s (t .me) (t .members) (t .term) (t .vote) _ l (rw same at m)))
+
 -- ---- timeout, order, prompt
 
 -- A timeout moves the stored part so,
 timeout-moves : (s : State) → Good s → Ends (λ t ms. Moved s t) (timeout s)
-unfolding settle leading standing
+unfolding standing
 timeout-moves s g =
-    timeout-ends (λ t ms. Moved s t) s (λ r. moved-not s)
-    (λ c m. moved-up s (s .term + 1) (s .me) (omega arith)) (λ c m. moved-up s (s .term + 1) (s .me) (omega arith))
+    let up = moved-up s (s .term + 1) (s .me) (omega arith) in
+    timeout-ends (λ t ms. Moved s t) s (λ r. moved-not s) (λ c m. moved-winner s (standing s) refl (omega arith) up) (λ c m. up)
 
 -- an order,
 order-moves : (o : ℕ) (s : State) → Good s → Ends (λ t ms. Moved s t) (order o s)
 unfolding settle ordered
 order-moves o s g =
     order-ends (λ t ms. Moved s t) o s
-    (λ r l. record {
-      mine = refl;
-      ours = refl;
-      least = λ z. absurd (omega (arith, self-voted s g (omega arith) .1));
-      rises = omega arith;
-      stays = λ e n. refl;
-      few = rw (kept-more (s .log) (record { term = s .term; order = o } ∷ []), length-append) (omega arith);
-    })
+    (λ r l. moved-adding s (s .me) (s .members) (s .term) (s .vote) _ (self-voted s g (omega arith) .1) (moved-not s))
 
 -- a prompt,
 prompt-moves : (s : State) → Good s → Ends (λ t ms. Moved s t) (prompt s)
@@ -124,7 +137,7 @@ moved-joining s term index prior commit es l n f =
 
 -- each message that arrives moves it so,
 deliver-moves : (s : State) → Good s → (m : Message) → Arrives s m → Ends (λ t ms. Moved s t) (deliver m s)
-unfolding sender term-of settle leading adding following heard
+unfolding sender term-of settle adding following heard
 deliver-moves s g (vote-request from to term index prior) a =
     let d = sent-by s (vote-request from to term index prior) a in
     let m = moved-taken s term (d .early) in
@@ -133,7 +146,7 @@ deliver-moves s g (vote-request from to term index prior) a =
 deliver-moves s g (vote-answer from to term reply) a =
     let d = sent-by s (vote-answer from to term reply) a in
     vote-answer-ends (λ t ms. Moved s t) s from to term reply
-    (λ c m. moved-not s) (λ c m. moved-not s)
+    (λ c m. moved-winner s (adding s from) refl (omega (arith, c .same, d .early)) (moved-not s)) (λ c m. moved-not s)
     (moved-taken s term (d .early))
 deliver-moves s g (append from to term index prior commit es) a =
     let d = sent-by s (append from to term index prior commit es) a in
