@@ -16,6 +16,7 @@ use Rattle.frames.specs.Writing.{written}
 use Rattle.raft.specs.Majority.{holds}
 use Rattle.raft.specs.Record.{State, leader, last-index, is-membership, good}
 use Rattle.raft.specs.Timeout.{last-of-terms}
+use Rattle.raft.specs.Order.{blank}
 use Rattle.raft.specs.Sends.{texts}
 use Rattle.raft.specs.Journal.{head, journaled}
 use Rattle.raft.specs.Outcome.{Outcome, done, refuse}
@@ -155,32 +156,43 @@ in-last-term a = is-timeout (a .event) && not (leads (state a)) && eqb (state a 
 abbrev pub breaks-a-rule : Asked → Bool
 breaks-a-rule a = not (good (state a))
 
+-- 13: T-01, "A client order of eight zeros"
+abbrev pub of-zeros : Event → Bool
+of-zeros times-out = false
+of-zeros (takes-order o) = eqb o blank
+of-zeros is-prompted = false
+of-zeros (receives bytes) = false
+
+abbrev pub client-blank : Asked → Bool
+client-blank a = of-zeros (a .event)
+
 -- ---- the table
 
--- "Checked in the order 12, 1, 2, 3, 4, 9, 6, 7, 8, 5"
+-- "Checked in the order 12, 1, 2, 3, 4, 9, 6, 7, 8, 5"; T-01: 13 "checked after 3 and before 4"
 abbrev pub checked : List (Row Asked)
 checked =
-    row 12 breaks-a-rule ∷ row 1 not-one-frame ∷ row 2 not-for-this-box ∷ row 3 not-leader ∷ row 4 log-full ∷ row 9 in-last-term
-    ∷ row 6 second-leader ∷ row 7 would-cut ∷ row 8 past-its-log ∷ row 5 too-long ∷ []
+    row 12 breaks-a-rule ∷ row 1 not-one-frame ∷ row 2 not-for-this-box ∷ row 3 not-leader ∷ row 13 client-blank ∷ row 4 log-full
+    ∷ row 9 in-last-term ∷ row 6 second-leader ∷ row 7 would-cut ∷ row 8 past-its-log ∷ row 5 too-long ∷ []
 
 -- "Given exactly when", of a call. (`First a r before`: r holds of the call, and nothing of `before` does.)
 pub record Table (a : Asked) : Type 0 where
   pub row-0 : Exactly (Answers a 0)
-      (None a (breaks-a-rule ∷ not-one-frame ∷ not-for-this-box ∷ not-leader ∷ log-full ∷ in-last-term ∷ second-leader ∷ would-cut ∷ past-its-log ∷ too-long ∷ []))
+      (None a (breaks-a-rule ∷ not-one-frame ∷ not-for-this-box ∷ not-leader ∷ client-blank ∷ log-full ∷ in-last-term ∷ second-leader ∷ would-cut ∷ past-its-log ∷ too-long ∷ []))
   pub row-1 : Exactly (Answers a 1) (First a not-one-frame (breaks-a-rule ∷ []))
   pub row-2 : Exactly (Answers a 2) (First a not-for-this-box (breaks-a-rule ∷ not-one-frame ∷ []))
   pub row-3 : Exactly (Answers a 3) (First a not-leader (breaks-a-rule ∷ not-one-frame ∷ not-for-this-box ∷ []))
-  pub row-4 : Exactly (Answers a 4) (First a log-full (breaks-a-rule ∷ not-one-frame ∷ not-for-this-box ∷ not-leader ∷ []))
+  pub row-4 : Exactly (Answers a 4) (First a log-full (breaks-a-rule ∷ not-one-frame ∷ not-for-this-box ∷ not-leader ∷ client-blank ∷ []))
   pub row-5 : Exactly (Answers a 5) (First a too-long
-      (breaks-a-rule ∷ not-one-frame ∷ not-for-this-box ∷ not-leader ∷ log-full ∷ in-last-term ∷ second-leader ∷ would-cut ∷ past-its-log ∷ []))
+      (breaks-a-rule ∷ not-one-frame ∷ not-for-this-box ∷ not-leader ∷ client-blank ∷ log-full ∷ in-last-term ∷ second-leader ∷ would-cut ∷ past-its-log ∷ []))
   pub row-6 : Exactly (Answers a 6) (First a second-leader
-      (breaks-a-rule ∷ not-one-frame ∷ not-for-this-box ∷ not-leader ∷ log-full ∷ in-last-term ∷ []))
+      (breaks-a-rule ∷ not-one-frame ∷ not-for-this-box ∷ not-leader ∷ client-blank ∷ log-full ∷ in-last-term ∷ []))
   pub row-7 : Exactly (Answers a 7) (First a would-cut
-      (breaks-a-rule ∷ not-one-frame ∷ not-for-this-box ∷ not-leader ∷ log-full ∷ in-last-term ∷ second-leader ∷ []))
+      (breaks-a-rule ∷ not-one-frame ∷ not-for-this-box ∷ not-leader ∷ client-blank ∷ log-full ∷ in-last-term ∷ second-leader ∷ []))
   pub row-8 : Exactly (Answers a 8) (First a past-its-log
-      (breaks-a-rule ∷ not-one-frame ∷ not-for-this-box ∷ not-leader ∷ log-full ∷ in-last-term ∷ second-leader ∷ would-cut ∷ []))
-  pub row-9 : Exactly (Answers a 9) (First a in-last-term (breaks-a-rule ∷ not-one-frame ∷ not-for-this-box ∷ not-leader ∷ log-full ∷ []))
+      (breaks-a-rule ∷ not-one-frame ∷ not-for-this-box ∷ not-leader ∷ client-blank ∷ log-full ∷ in-last-term ∷ second-leader ∷ would-cut ∷ []))
+  pub row-9 : Exactly (Answers a 9) (First a in-last-term (breaks-a-rule ∷ not-one-frame ∷ not-for-this-box ∷ not-leader ∷ client-blank ∷ log-full ∷ []))
   pub row-12 : Exactly (Answers a 12) (First a breaks-a-rule [])
+  pub row-13 : Exactly (Answers a 13) (First a client-blank (breaks-a-rule ∷ not-one-frame ∷ not-for-this-box ∷ not-leader ∷ []))
 
 -- ---- starting, writing, and what is handed out
 

@@ -18,10 +18,11 @@ use Rattle.raft.specs.Majority.{bit, majority, holds}
 use Rattle.raft.specs.Record.{State, last-index, is-other, is-membership, good}
 use Rattle.raft.specs.RecordLaws.{good-facts}
 use Rattle.raft.specs.Timeout.{last-of-terms, timeout, standing}
-use Rattle.raft.specs.Order.{order}
+use Rattle.raft.specs.Order.{is-full, blank, order}
 use Rattle.raft.specs.Prompt.{prompt}
 use Rattle.raft.specs.Sends.{texts, vote-requests}
-use Rattle.raft.specs.Winning.{led, won}
+use Rattle.raft.specs.Led.{led}
+use Rattle.raft.specs.Winning.{won}
 use Rattle.raft.specs.Journal.{head, journaled, kept}
 use Rattle.raft.specs.Outcome.{Outcome, done, refuse}
 use Rattle.raft.specs.AnyMessage.{taking, taken}
@@ -38,7 +39,7 @@ use Rattle.record.specs.declared.Handed.{Handed}
 use Rattle.record.specs.Calls.{state-of, Called, untouched, fit, run, call, Begun, begun, handed}
 use Rattle.record.specs.Calls as calls
 use Rattle.record.specs.ExactlyWhen.{Asked, state, left-by, Answers, leads, astray, longer, overflows, of-own-term, cuts, names-past, checked, Table}
-use Rattle.record.specs.ExactlyWhen.{breaks-a-rule, not-one-frame, not-for-this-box, not-leader, log-full, in-last-term, second-leader, would-cut, past-its-log, too-long}
+use Rattle.record.specs.ExactlyWhen.{breaks-a-rule, not-one-frame, not-for-this-box, not-leader, client-blank, log-full, in-last-term, second-leader, would-cut, past-its-log, too-long}
 use Rattle.record.specs.ExactlyWhen.{Starting, bad-box-or-mask, head-too-long, start-checked, StartTable, Handing, bad-record, hand-checked, HandTable}
 use Rattle.record.specs.ExactlyWhen.{Writing, not-fields, frame-too-long, write-checked, WriteTable}
 
@@ -242,11 +243,12 @@ timeout-checks a s =
     go false true x f = refl
     go false false x f = finished a x f
 
--- 3, 4, then 5: a log that is good and not shorter than 256 holds 256
+-- 3, 13, 4, then 5: a log that is good and not shorter than 256 holds 256
 order-checks : (a : Asked) (o : ℕ) (s : State) → good s ≡ true
-    → comes-to a (order o s) ≡ cond (not (leads s)) 3 (cond (eqb (last-index s) log-limit) 4 (cond (overflows a (order o s)) 5 0))
-unfolding order
-order-checks a o s h = rw full (go (leads s) (eqb (last-index s) log-limit) _ (finishes a _ _))
+    → comes-to a (order o s)
+    ≡ cond (not (leads s)) 3 (cond (eqb o blank) 13 (cond (eqb (last-index s) log-limit) 4 (cond (overflows a (order o s)) 5 0)))
+unfolding order is-full
+order-checks a o s h = rw full (go (leads s) (eqb o blank) (eqb (last-index s) log-limit) _ (finishes a _ _))
   where
     full : leb log-limit (last-index s) ≡ eqb (last-index s) log-limit
     full = at (leb log-limit (last-index s)) refl
@@ -255,12 +257,13 @@ order-checks a o s h = rw full (go (leads s) (eqb (last-index s) log-limit) _ (f
         at true e = sym (eq-eqb (last-index s) log-limit (omega (arith, leb-true log-limit (last-index s) e, good-facts s h .room)))
         at false e = sym (ne-eqb (last-index s) log-limit (omega (arith, leb-false log-limit (last-index s) e)))
 
-    go : (led most : Bool) (x : Outcome) → Finishes a x
-        → comes-to a (cond led (cond most (refuse 4) x) (refuse 3))
-        ≡ cond (not led) 3 (cond most 4 (cond (overflows a (cond led (cond most (refuse 4) x) (refuse 3))) 5 0))
-    go true true x f = refl
-    go true false x f = finished a x f
-    go false most x f = refl
+    go : (led zeros most : Bool) (x : Outcome) → Finishes a x
+        → comes-to a (cond led (cond zeros (refuse 13) (cond most (refuse 4) x)) (refuse 3))
+        ≡ cond (not led) 3 (cond zeros 13 (cond most 4 (cond (overflows a (cond led (cond zeros (refuse 13) (cond most (refuse 4) x)) (refuse 3))) 5 0)))
+    go true true most x f = refl
+    go true false true x f = refl
+    go true false false x f = finished a x f
+    go false zeros most x f = refl
 
 -- 3, then 5
 prompt-checks : (a : Asked) (s : State) → comes-to a (prompt s) ≡ cond (not (leads s)) 3 (cond (overflows a (prompt s)) 5 0)
@@ -303,8 +306,8 @@ receive-checks a bytes s = go (is-frame bytes) (arrive-checks a s (message-in by
 -- the rows behind 12
 abbrev behind : List (Row Asked)
 behind =
-    row 1 not-one-frame ∷ row 2 not-for-this-box ∷ row 3 not-leader ∷ row 4 log-full ∷ row 9 in-last-term ∷ row 6 second-leader
-    ∷ row 7 would-cut ∷ row 8 past-its-log ∷ row 5 too-long ∷ []
+    row 1 not-one-frame ∷ row 2 not-for-this-box ∷ row 3 not-leader ∷ row 13 client-blank ∷ row 4 log-full ∷ row 9 in-last-term
+    ∷ row 6 second-leader ∷ row 7 would-cut ∷ row 8 past-its-log ∷ row 5 too-long ∷ []
 
 step-first : (e : Event) (b : Record) (terms orders journal messages : List ℕ) → good (state-of b terms orders) ≡ true
     → comes-to (record { event = e; box = b; terms = terms; orders = orders; journal = journal; messages = messages }) (step e (state-of b terms orders))
@@ -340,6 +343,7 @@ given-exactly-when a =
     let r1 = row 1 not-one-frame in
     let r2 = row 2 not-for-this-box in
     let r3 = row 3 not-leader in
+    let r13 = row 13 client-blank in
     let r4 = row 4 log-full in
     let r9 = row 9 in-last-term in
     let r6 = row 6 second-leader in
@@ -348,16 +352,17 @@ given-exactly-when a =
     let r5 = row 5 too-long in
     record {
       row-0 = carried 0 e (at-none checked refl a);
-      row-1 = carried 1 e (at-row 1 not-one-frame (r12 ∷ []) (r2 ∷ r3 ∷ r4 ∷ r9 ∷ r6 ∷ r7 ∷ r8 ∷ r5 ∷ []) refl refl refl a);
-      row-2 = carried 2 e (at-row 2 not-for-this-box (r12 ∷ r1 ∷ []) (r3 ∷ r4 ∷ r9 ∷ r6 ∷ r7 ∷ r8 ∷ r5 ∷ []) refl refl refl a);
-      row-3 = carried 3 e (at-row 3 not-leader (r12 ∷ r1 ∷ r2 ∷ []) (r4 ∷ r9 ∷ r6 ∷ r7 ∷ r8 ∷ r5 ∷ []) refl refl refl a);
-      row-4 = carried 4 e (at-row 4 log-full (r12 ∷ r1 ∷ r2 ∷ r3 ∷ []) (r9 ∷ r6 ∷ r7 ∷ r8 ∷ r5 ∷ []) refl refl refl a);
-      row-5 = carried 5 e (at-row 5 too-long (r12 ∷ r1 ∷ r2 ∷ r3 ∷ r4 ∷ r9 ∷ r6 ∷ r7 ∷ r8 ∷ []) [] refl refl refl a);
-      row-6 = carried 6 e (at-row 6 second-leader (r12 ∷ r1 ∷ r2 ∷ r3 ∷ r4 ∷ r9 ∷ []) (r7 ∷ r8 ∷ r5 ∷ []) refl refl refl a);
-      row-7 = carried 7 e (at-row 7 would-cut (r12 ∷ r1 ∷ r2 ∷ r3 ∷ r4 ∷ r9 ∷ r6 ∷ []) (r8 ∷ r5 ∷ []) refl refl refl a);
-      row-8 = carried 8 e (at-row 8 past-its-log (r12 ∷ r1 ∷ r2 ∷ r3 ∷ r4 ∷ r9 ∷ r6 ∷ r7 ∷ []) (r5 ∷ []) refl refl refl a);
-      row-9 = carried 9 e (at-row 9 in-last-term (r12 ∷ r1 ∷ r2 ∷ r3 ∷ r4 ∷ []) (r6 ∷ r7 ∷ r8 ∷ r5 ∷ []) refl refl refl a);
-      row-12 = carried 12 e (at-row 12 breaks-a-rule [] (r1 ∷ r2 ∷ r3 ∷ r4 ∷ r9 ∷ r6 ∷ r7 ∷ r8 ∷ r5 ∷ []) refl refl refl a);
+      row-1 = carried 1 e (at-row 1 not-one-frame (r12 ∷ []) (r2 ∷ r3 ∷ r13 ∷ r4 ∷ r9 ∷ r6 ∷ r7 ∷ r8 ∷ r5 ∷ []) refl refl refl a);
+      row-2 = carried 2 e (at-row 2 not-for-this-box (r12 ∷ r1 ∷ []) (r3 ∷ r13 ∷ r4 ∷ r9 ∷ r6 ∷ r7 ∷ r8 ∷ r5 ∷ []) refl refl refl a);
+      row-3 = carried 3 e (at-row 3 not-leader (r12 ∷ r1 ∷ r2 ∷ []) (r13 ∷ r4 ∷ r9 ∷ r6 ∷ r7 ∷ r8 ∷ r5 ∷ []) refl refl refl a);
+      row-4 = carried 4 e (at-row 4 log-full (r12 ∷ r1 ∷ r2 ∷ r3 ∷ r13 ∷ []) (r9 ∷ r6 ∷ r7 ∷ r8 ∷ r5 ∷ []) refl refl refl a);
+      row-5 = carried 5 e (at-row 5 too-long (r12 ∷ r1 ∷ r2 ∷ r3 ∷ r13 ∷ r4 ∷ r9 ∷ r6 ∷ r7 ∷ r8 ∷ []) [] refl refl refl a);
+      row-6 = carried 6 e (at-row 6 second-leader (r12 ∷ r1 ∷ r2 ∷ r3 ∷ r13 ∷ r4 ∷ r9 ∷ []) (r7 ∷ r8 ∷ r5 ∷ []) refl refl refl a);
+      row-7 = carried 7 e (at-row 7 would-cut (r12 ∷ r1 ∷ r2 ∷ r3 ∷ r13 ∷ r4 ∷ r9 ∷ r6 ∷ []) (r8 ∷ r5 ∷ []) refl refl refl a);
+      row-8 = carried 8 e (at-row 8 past-its-log (r12 ∷ r1 ∷ r2 ∷ r3 ∷ r13 ∷ r4 ∷ r9 ∷ r6 ∷ r7 ∷ []) (r5 ∷ []) refl refl refl a);
+      row-9 = carried 9 e (at-row 9 in-last-term (r12 ∷ r1 ∷ r2 ∷ r3 ∷ r13 ∷ r4 ∷ []) (r6 ∷ r7 ∷ r8 ∷ r5 ∷ []) refl refl refl a);
+      row-12 = carried 12 e (at-row 12 breaks-a-rule [] (r1 ∷ r2 ∷ r3 ∷ r13 ∷ r4 ∷ r9 ∷ r6 ∷ r7 ∷ r8 ∷ r5 ∷ []) refl refl refl a);
+      row-13 = carried 13 e (at-row 13 client-blank (r12 ∷ r1 ∷ r2 ∷ r3 ∷ []) (r4 ∷ r9 ∷ r6 ∷ r7 ∷ r8 ∷ r5 ∷ []) refl refl refl a);
     }
 
 -- everything as it was, but for the answer's number
