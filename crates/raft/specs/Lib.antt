@@ -25,6 +25,7 @@ pub mod RecordLaws
 pub mod MajorityLaws
 pub mod CommitLaws
 pub mod StepLaws
+pub mod WinningLaws
 pub mod SendLaws
 pub mod FitLaws
 pub mod ReceiveLaws

@@ -1,0 +1,60 @@
+-- The struct that begins to lead, on the lent log: its record is good, and what is decided of it is what winning comes to. Assumes nothing.
+use Prim.Native.Nat.{ℕ, _≤_, _<_}
+use native.Mathlib.Omega.{arith}
+use mathlib.Core.Path.{_≡_, refl, sym, ap, _∙_, subst}
+use mathlib.Core.List.{List}
+use Rattle.frames.specs.declared.Entry.{Entry}
+use Rattle.frames.specs.Limits.{log-limit}
+use Rattle.raft.specs.Record.{State, leader}
+use Rattle.raft.specs.RecordLaws.{Good, facts-good}
+use Rattle.raft.specs.Commit.{settle}
+use Rattle.raft.specs.Led.{led}
+use Rattle.raft.specs.Order.{ordered, blank}
+use Rattle.raft.specs.Winning.{leading, won}
+use Rattle.raft.specs.StepLaws.{good-leading}
+use Rattle.raft.specs.WinningLaws.{won-full, won-room}
+use Rattle.raft.specs.LentLaws.{length-entries-of}
+use Rattle.record.specs.declared.Record.{Record}
+use Rattle.record.specs.declared.Send.{Send}
+use Rattle.record.specs.declared.Decision.{Decision}
+use Rattle.record.specs.Calls.{state-of, Ready}
+use Rattle.record.specs.Deciding.{messages-of, Aimed, Decides, Becomes}
+use Rattle.record.specs.DecidingLaws.{plain, changed-decides, decides-as, becomes-lent}
+use Rattle.record.specs.GoodLaws.{ready-good, ready-last}
+use Rattle.leader.specs.Required.{MayLead}
+
+module _ {b first : Record} {terms orders : List ℕ} (k : Becomes b first leading) (may : MayLead b terms orders) where
+  -- it is good,
+  pub first-ready : Ready first terms orders
+  first-ready =
+      record {
+        terms-long = may .ready .terms-long;
+        orders-long = may .ready .orders-long;
+        rules = rw (becomes-lent k terms orders) (facts-good _ (good-leading _ (ready-good (may .ready)) (may .stands)));
+      }
+
+  -- and a leader's, of the same term.
+  pub first-leads : first .role ≡ leader
+  unfolding leading
+  first-leads = ap (λ (x : State). x .role) (becomes-lent k terms orders)
+
+  pub first-term : first .term ≡ b .term
+  unfolding leading
+  first-term = ap (λ (x : State). x .term) (becomes-lent k terms orders)
+
+  -- With a full log its commit is settled, and that is all;
+  pub full-decides : log-limit ≤ b .last → (next : Record) → state-of next terms orders ≡ settle (state-of first terms orders) → next .last ≡ first .last
+      → (offered : List Entry) → Decides (b .last) (plain next Send.Appends) offered terms orders (won (state-of b terms orders))
+  unfolding messages-of Aimed
+  full-decides l next e n offered =
+      changed-decides b next offered terms orders Send.Appends (n ∙ k .last) (ready-last (may .ready)) tt
+      (rw (e, becomes-lent k terms orders) (sym (won-full (state-of b terms orders) (rw (length-entries-of terms orders 0 (b .last)) l))))
+
+  -- where there is room, what is decided for the blank's entry is decided for winning.
+  pub blank-decides : b .last < log-limit → {d : Decision} {offered : List Entry}
+      → Decides (first .last) d offered terms orders (led (ordered (state-of first terms orders) blank))
+      → Decides (b .last) d offered terms orders (won (state-of b terms orders))
+  blank-decides l {d} {offered} h =
+      subst (λ (n : ℕ). Decides n d offered terms orders (won (state-of b terms orders))) (k .last)
+      (decides-as h
+      (rw (becomes-lent k terms orders) (sym (won-room (state-of b terms orders) (rw (length-entries-of terms orders 0 (b .last)) l)))))
