@@ -1,16 +1,14 @@
 // "Order (leader). Entry with the current term, then an append to each other member."
-use changes::ordered;
 use changes::refuse;
 use finishing::finish_adding;
-use frames::Entry;
 use frames::Fields;
+use leader::adding;
+use leader::one_entry;
 use record::Decision;
 use record::Record;
-use record::Send;
 use record::Step;
 ghost use mathlib.Core.Path.{_≡_};
 ghost use mathlib.Core.List.{List, [], _∷_};
-ghost use Prim.Native.Nat.{ℕ};
 ghost use Rattle.frames.specs.declared.Entry.{Entry};
 ghost use Rattle.frames.specs.Fields.{listed};
 ghost use Rattle.raft.specs.Order.{order};
@@ -18,39 +16,23 @@ ghost use Rattle.raft.specs.Event.{step, takes-order};
 ghost use Rattle.record.specs.Calls.{state-of, Ready, Runs};
 ghost use Rattle.record.specs.Deciding.{Decides};
 
-// 3, 4, or the entry that is offered and the appends.
-fn decide(n: Record, terms: &[u32], orders: &[u64]) -> Decision
+// 3, 13, 4, or the entry that is offered and the appends.
+fn decide(n: Record, o: u64, terms: &[u32], orders: &[u64]) -> Decision
     requires { ⌜ Ready n (now terms) (now orders) ⌝ }
-    ensures { λ r. ⌜ ((o : ℕ) (offered : List Entry) → listed offered 0 1 ≡ record { term = n .term; order = o } ∷ []
+    ensures { λ r. ⌜ ((offered : List Entry) → listed offered 0 1 ≡ record { term = n .term; order = o } ∷ []
         → Decides (n .last) r offered (now (terms .entry)) (now (orders .entry))
         (order o (state-of n (now (terms .entry)) (now (orders .entry))))) ⌝ }
 {
     if n.role != Record::LEADER {
         return refuse(n, 3);
     }
-    let last = n.last;
-    if Fields::LOG <= last {
+    if o == Record::BLANK {
+        return refuse(n, 13);
+    }
+    if Fields::LOG <= n.last {
         return refuse(n, 4);
     }
-    let next = ordered(n, terms, orders);
-    let send = Send::Appends;
-    Decision {
-        refusal: 0,
-        next,
-        kept: last,
-        first: 0,
-        count: 1,
-        send,
-    }
-}
-
-// The entry, in the first of four places.
-fn one_entry(term: u32, order: u64) -> [Entry; Record::ENTRIES]
-    ensures { λ r. ⌜ listed r 0 1 ≡ record { term = term; order = order } ∷ [] ⌝ }
-{
-    let e = Entry { term: 0, order: 0 };
-    let a = Entry { term, order };
-    [a, e, e, e]
+    adding(n, terms, orders)
 }
 
 // An order at a record that is known to be good.
@@ -67,7 +49,7 @@ pub fn run_order(
         (now (terms .entry)) (now (orders .entry)) (now (journal .entry)) (now (messages .entry)) r
         (now (terms .exit)) (now (orders .exit)) (now (journal .exit)) (now (messages .exit)) ⌝ }
 {
-    let d = decide(n, &terms[..], &orders[..]);
+    let d = decide(n, o, &terms[..], &orders[..]);
     let offered = one_entry(n.term, o);
     finish_adding(n, d, offered, terms, orders, journal, messages)
 }

@@ -2,15 +2,19 @@
 use changes::refuse;
 use changes::standing;
 use changes::step;
-use changes::won;
-use finishing::finish;
+use finishing::finish_adding;
+use leader::one_entry;
+use leader::won;
 use record::Decision;
 use record::Record;
 use record::Send;
 use record::Step;
 use rules::is_majority;
 ghost use mathlib.Core.Path.{_≡_};
-ghost use mathlib.Core.List.{[]};
+ghost use mathlib.Core.List.{List, [], _∷_};
+ghost use Rattle.frames.specs.declared.Entry.{Entry};
+ghost use Rattle.frames.specs.Fields.{listed};
+ghost use Rattle.raft.specs.Order.{blank};
 ghost use Rattle.raft.specs.Timeout.{timeout};
 ghost use Rattle.raft.specs.Event.{step, times-out};
 ghost use Rattle.record.specs.Calls.{state-of, Ready, Runs};
@@ -19,9 +23,9 @@ ghost use Rattle.record.specs.Deciding.{Decides};
 // 9, or a candidate's vote requests, or "A majority already (one member): it leads at once."
 fn decide(n: Record, terms: &[u32], orders: &[u64]) -> Decision
     requires { ⌜ Ready n (now terms) (now orders) ⌝ }
-    ensures { λ r. ⌜ Decides (n .last) r [] (now (terms .entry)) (now (orders .entry))
-        (timeout (state-of n (now (terms .entry)) (now (orders .entry)))) ⌝ }
-    ensures { λ r. ⌜ r .first ≡ r .count ⌝ }
+    ensures { λ r. ⌜ ((offered : List Entry) → listed offered 0 1 ≡ record { term = r .next .term; order = blank } ∷ []
+        → Decides (n .last) r offered (now (terms .entry)) (now (orders .entry))
+        (timeout (state-of n (now (terms .entry)) (now (orders .entry))))) ⌝ }
 {
     if n.role == Record::LEADER {
         return step(n, Send::Nothing);
@@ -31,7 +35,7 @@ fn decide(n: Record, terms: &[u32], orders: &[u64]) -> Decision
     }
     let candidate = standing(n);
     if is_majority(n.members, rules::bit(n.me)) {
-        return step(won(candidate, terms, orders), Send::Appends);
+        return won(candidate, terms, orders);
     }
     step(candidate, Send::Requests)
 }
@@ -39,16 +43,18 @@ fn decide(n: Record, terms: &[u32], orders: &[u64]) -> Decision
 // A timeout at a record that is known to be good.
 pub fn run_timeout(
     n: Record,
-    terms: &[u32],
-    orders: &[u64],
+    terms: &mut [u32],
+    orders: &mut [u64],
     journal: &mut [u8],
     messages: &mut [u8],
 ) -> Step
     requires { ⌜ Ready n (now terms) (now orders) ⌝ }
     ensures { λ r. ⌜ Runs (step times-out (state-of n (now (terms .entry)) (now (orders .entry)))) n
         (now (terms .entry)) (now (orders .entry)) (now (journal .entry)) (now (messages .entry)) r
-        (now (terms .entry)) (now (orders .entry)) (now (journal .exit)) (now (messages .exit)) ⌝ }
+        (now (terms .exit)) (now (orders .exit)) (now (journal .exit)) (now (messages .exit)) ⌝ }
 {
-    let d = decide(n, terms, orders);
-    finish(n, d, terms, orders, journal, messages)
+    let d = decide(n, &terms[..], &orders[..]);
+    let next = d.next;
+    let offered = one_entry(next.term, Record::BLANK);
+    finish_adding(n, d, offered, terms, orders, journal, messages)
 }

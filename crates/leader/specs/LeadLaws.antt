@@ -1,12 +1,10 @@
 -- The struct that begins to lead, on the lent log: its record is good, and what is decided of it is what winning comes to. Assumes nothing.
 use Prim.Native.Nat.{ℕ, _≤_, _<_}
-use native.Mathlib.Omega.{arith}
-use mathlib.Core.Path.{_≡_, refl, sym, ap, _∙_, subst}
+use mathlib.Core.Path.{_≡_, sym, ap, _∙_}
 use mathlib.Core.List.{List}
 use Rattle.frames.specs.declared.Entry.{Entry}
 use Rattle.frames.specs.Limits.{log-limit}
 use Rattle.raft.specs.Record.{State, leader}
-use Rattle.raft.specs.RecordLaws.{Good, facts-good}
 use Rattle.raft.specs.Commit.{settle}
 use Rattle.raft.specs.Led.{led}
 use Rattle.raft.specs.Order.{ordered, blank}
@@ -19,19 +17,14 @@ use Rattle.record.specs.declared.Send.{Send}
 use Rattle.record.specs.declared.Decision.{Decision}
 use Rattle.record.specs.Calls.{state-of, Ready}
 use Rattle.record.specs.Deciding.{messages-of, Aimed, Decides, Becomes}
-use Rattle.record.specs.DecidingLaws.{plain, changed-decides, decides-as, becomes-lent}
+use Rattle.record.specs.DecidingLaws.{plain, changed-decides, decides-at, becomes-lent, becomes-ready}
 use Rattle.record.specs.GoodLaws.{ready-good, ready-last}
 use Rattle.leader.specs.Required.{MayLead}
 
 module _ {b first : Record} {terms orders : List ℕ} (k : Becomes b first leading) (may : MayLead b terms orders) where
   -- it is good,
   pub first-ready : Ready first terms orders
-  first-ready =
-      record {
-        terms-long = may .ready .terms-long;
-        orders-long = may .ready .orders-long;
-        rules = rw (becomes-lent k terms orders) (facts-good _ (good-leading _ (ready-good (may .ready)) (may .stands)));
-      }
+  first-ready = becomes-ready k (may .ready) (good-leading _ (ready-good (may .ready)) (may .stands))
 
   -- and a leader's, of the same term.
   pub first-leads : first .role ≡ leader
@@ -54,7 +47,5 @@ module _ {b first : Record} {terms orders : List ℕ} (k : Becomes b first leadi
   pub blank-decides : b .last < log-limit → {d : Decision} {offered : List Entry}
       → Decides (first .last) d offered terms orders (led (ordered (state-of first terms orders) blank))
       → Decides (b .last) d offered terms orders (won (state-of b terms orders))
-  blank-decides l {d} {offered} h =
-      subst (λ (n : ℕ). Decides n d offered terms orders (won (state-of b terms orders))) (k .last)
-      (decides-as h
-      (rw (becomes-lent k terms orders) (sym (won-room (state-of b terms orders) (rw (length-entries-of terms orders 0 (b .last)) l)))))
+  blank-decides l h =
+      decides-at (k .last) (rw (becomes-lent k terms orders) (sym (won-room (state-of b terms orders) (rw (length-entries-of terms orders 0 (b .last)) l)))) h

@@ -30,6 +30,7 @@ pub fn adding(n: Record, terms: &[u32], orders: &[u64]) -> Decision
     ensures { λ r. ⌜ ((o : ℕ) (offered : List Entry) → listed offered 0 1 ≡ record { term = n .term; order = o } ∷ []
         → Decides (n .last) r offered (now (terms .entry)) (now (orders .entry))
         (led (ordered (state-of n (now (terms .entry)) (now (orders .entry))) o))) ⌝ }
+    ensures { λ r. ⌜ r .next .term ≡ n .term ⌝ }
 {
     let next = ordered(n, terms, orders);
     let send = Send::Appends;

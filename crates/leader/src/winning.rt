@@ -61,6 +61,7 @@ pub fn won(n: Record, terms: &[u32], orders: &[u64]) -> Decision
     requires { ⌜ MayLead n (now terms) (now orders) ⌝ }
     ensures { λ r. ⌜ ((offered : List Entry) → listed offered 0 1 ≡ record { term = n .term; order = blank } ∷ []
         → Decides (n .last) r offered (now (terms .entry)) (now (orders .entry)) (won (state-of n (now (terms .entry)) (now (orders .entry))))) ⌝ }
+    ensures { λ r. ⌜ r .next .term ≡ n .term ⌝ }
 {
     let first = leading(n);
     if Fields::LOG <= n.last {

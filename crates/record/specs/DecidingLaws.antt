@@ -103,6 +103,12 @@ decides-as k e =
       aimed = k .aimed;
     }
 
+-- and so where the box's log is as long
+pub decides-at : {last last' : ℕ} {d : Decision} {offered : List Entry} {terms orders : List ℕ} {o o' : Outcome} → last ≡ last' → o ≡ o'
+    → Decides last d offered terms orders o → Decides last' d offered terms orders o'
+decides-at {last} {last'} {d} {offered} {terms} {orders} {o} {o'} l e k =
+    subst (λ (n : ℕ). Decides n d offered terms orders o') l (decides-as k e)
+
 -- ---- finishing
 
 module _ {n : Record} {d : Decision} {offered : List Entry} {terms orders : List ℕ} (e : Event) (r : Ready n terms orders)
@@ -133,6 +139,12 @@ pub becomes-lent : {b next : Record} {change : State → State} → Becomes b ne
 becomes-lent {b} {next} {change} k terms orders =
     ap (λ (n : ℕ). with-entries next (entries-of terms orders 0 n)) (k .last)
     ∙ k .state (entries-of terms orders 0 (b .last)) (length-entries-of terms orders 0 (b .last))
+
+-- The changed record may be relied on where it is good.
+pub becomes-ready : {b next : Record} {change : State → State} {terms orders : List ℕ} → Becomes b next change → Ready b terms orders
+    → Good (change (state-of b terms orders)) → Ready next terms orders
+becomes-ready {terms} {orders} k r g =
+    record { terms-long = r .terms-long; orders-long = r .orders-long; rules = rw (becomes-lent k _ _) (facts-good _ g) }
 
 -- ---- an order
 

@@ -48,6 +48,9 @@ impl Record {
     // The last term there is.
     pub const LAST_TERM: u32 = 4294967295;
 
+    // T-01: "an order of eight zero bytes", a new leader's.
+    pub const BLANK: u64 = 0;
+
     // Roles.
     pub const FOLLOWER: u8 = 0;
 

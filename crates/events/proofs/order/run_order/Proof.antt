@@ -18,7 +18,7 @@ finish-adding-requires c κs =
     let at-one-entry = c .before .before .before .before in
     let at-decide = at-one-entry .before in
     let entered = at-decide .before .before .before .before .before .before .before in
-    sound (takes-order (entered .args .o)) (entered .pre) (at-decide .decide .ensures (entered .args .o) _ (at-one-entry .one-entry .ensures))
+    sound (takes-order (entered .args .o)) (entered .pre) (at-decide .decide .ensures _ (at-one-entry .one-entry .ensures))
 
 same-length : tie.Need-same-length
 same-length c = search needs
@@ -40,7 +40,7 @@ returns c =
     let at-decide = at-one-entry .before in
     let entered = at-decide .before .before .before .before .before .before .before in
     at-finish-adding .finish-adding .ensures ∙ finished (takes-order (entered .args .o)) (entered .pre)
-    (at-decide .decide .ensures (entered .args .o) _ (at-one-entry .one-entry .ensures)) (entered .args .journal .now) (entered .args .messages .now)
+    (at-decide .decide .ensures _ (at-one-entry .one-entry .ensures)) (entered .args .journal .now) (entered .args .messages .now)
 
 pub run-order-spec : {M : Type 1} → statement M
 run-order-spec =

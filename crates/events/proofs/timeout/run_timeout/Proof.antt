@@ -1,4 +1,4 @@
--- What is decided, finished.
+-- What is decided, finished with the blank, where there is one.
 use borrow.Author.Needs.{needs}
 use mathlib.Core.Path.{_∙_}
 use Rattle.raft.specs.Event.{step, times-out}
@@ -9,12 +9,16 @@ use Rattle.events.proofs.timeout.run_timeout.Tie as tie
 decide-requires : tie.Need-decide-requires
 decide-requires c κs = search needs
 
-finish-requires : tie.Need-finish-requires
+one-entry-requires : tie.Need-one-entry-requires
+one-entry-requires c κs = search needs
+
+finish-adding-requires : tie.Need-finish-adding-requires
 unfolding step
-finish-requires c κs =
-    let at-decide = c .before .before in
-    let entered = at-decide .before .before .before .before .before in
-    record { sound = sound times-out (entered .pre) (at-decide .decide .ensures .0); none = at-decide .decide .ensures .1 }
+finish-adding-requires c κs =
+    let at-one-entry = c .before .before .before .before in
+    let at-decide = at-one-entry .before .before in
+    let entered = at-decide .before .before .before .before .before .before .before in
+    sound times-out (entered .pre) (at-decide .decide .ensures _ (at-one-entry .one-entry .ensures))
 
 same-length : tie.Need-same-length
 same-length c = search needs
@@ -22,14 +26,31 @@ same-length c = search needs
 same-length-2 : tie.Need-same-length-2
 same-length-2 c = search needs
 
+same-length-3 : tie.Need-same-length-3
+same-length-3 c = search needs
+
+same-length-4 : tie.Need-same-length-4
+same-length-4 c = search needs
+
 returns : tie.Need-returns
 unfolding step
 returns c =
-    let at-finish = c .before .before .before .before in
-    let at-decide = at-finish .before .before .before in
-    let entered = at-decide .before .before .before .before .before in
-    at-finish .finish .ensures ∙ finished times-out (entered .pre) (at-decide .decide .ensures .0) (entered .args .journal .now) (entered .args .messages .now)
+    let at-finish-adding = c .before .before .before .before .before .before .before .before in
+    let at-one-entry = at-finish-adding .before .before .before .before .before in
+    let at-decide = at-one-entry .before .before in
+    let entered = at-decide .before .before .before .before .before .before .before in
+    at-finish-adding .finish-adding .ensures ∙ finished times-out (entered .pre)
+    (at-decide .decide .ensures _ (at-one-entry .one-entry .ensures)) (entered .args .journal .now) (entered .args .messages .now)
 
 pub run-timeout-spec : {M : Type 1} → statement M
 run-timeout-spec =
-    tie.close (tie.spec decide-requires finish-requires same-length same-length-2 returns)
+    tie.close
+    (tie.spec
+    decide-requires
+    one-entry-requires
+    finish-adding-requires
+    same-length
+    same-length-2
+    same-length-3
+    same-length-4
+    returns)
