@@ -1,7 +1,7 @@
 -- Any message and any bytes: what the struct of fields says, its term, its kind, and whom it is for. Assumes nothing.
 use Prim.Native.Nat.{ℕ, _+_, _≤_, _<_}
 use native.Mathlib.Omega.{arith}
-use mathlib.Core.Path.{_≡_, refl, ap, _∙_, subst}
+use mathlib.Core.Path.{_≡_, refl, ap, _∙_}
 use mathlib.Core.Bool.{Bool, true, false, cond, _&&_}
 use mathlib.Core.List.{List, [], _∷_}
 use lib.Dec.{eqb}
@@ -31,13 +31,12 @@ use Rattle.raft.specs.VoteAnswer.{on-vote-answer}
 use Rattle.raft.specs.Append.{on-append}
 use Rattle.raft.specs.AppendAnswer.{on-append-answer}
 use Rattle.raft.specs.Receive.{sender, receiver, term-of, stale, current, deliver, is-for, arrive, arrive-read, receive}
-use Rattle.raft.specs.ReceiveLaws.{Offers, offer-facts, taken-keeps, good-taken}
-use Rattle.raft.specs.RecordLaws.{facts-good}
+use Rattle.raft.specs.ReceiveLaws.{Offers, offer-facts, taken-keeps, taken-term, good-taken}
 use Rattle.record.specs.Calls.{state-of, Ready}
 use Rattle.record.specs.Deciding.{OtherBox, Becomes, Decides}
-use Rattle.record.specs.DecidingLaws.{becomes-lent, decides-as}
+use Rattle.record.specs.DecidingLaws.{becomes-lent, becomes-ready, decides-at}
 use Rattle.record.specs.GoodLaws.{ready-good, ready-last}
-use Rattle.messages.specs.Required.{Lent, Offered, From, Read, Delivered}
+use Rattle.messages.specs.Required.{Lent, Offered, From, Read, Delivered, InTerm}
 
 -- ---- the fields of a frame
 
@@ -176,15 +175,11 @@ module _ {b : Record} {f : Fields} {terms orders : List ℕ} where
         record { lent = delivered-lent; few = append-few f (d .read .frame) k; room = append-room f (d .read .frame) k }
 
     -- the term taken: still a good record, and the same others
-    pub delivered-taken : (t : Record) → Becomes b t (taken (f .term)) → Delivered t f terms orders
+    delivered-taken : (t : Record) → Becomes b t (taken (f .term)) → Delivered t f terms orders
     delivered-taken t e =
         record {
           read = record {
-            ready = record {
-              terms-long = d .read .ready .terms-long;
-              orders-long = d .read .ready .orders-long;
-              rules = facts-good (state-of t terms orders) (rw same (good-taken (f .term) s (ready-good (d .read .ready))));
-            };
+            ready = becomes-ready e (d .read .ready) (good-taken (f .term) s (ready-good (d .read .ready)));
             frame = d .read .frame;
           };
           sender = record {
@@ -202,14 +197,20 @@ module _ {b : Record} {f : Fields} {terms orders : List ℕ} where
         same : state-of t terms orders ≡ taken (f .term) s
         same = becomes-lent e terms orders
 
+    -- which is then the message's
+    pub taken-in-term : b .term ≤ f .term → (t : Record) → Becomes b t (taken (f .term)) → InTerm t f terms orders
+    taken-in-term l t e =
+        record {
+          delivered = delivered-taken t e;
+          same = ap (λ (x : State). x .term) (becomes-lent e terms orders) ∙ taken-term (f .term) (state-of b terms orders) l;
+        }
+
 -- what the record with the term taken decides, the box decides
 pub taken-decides : (b t : Record) (f : Fields) (terms orders : List ℕ) {d : Decision} {offered : List Entry} → Becomes b t (taken (f .term))
     → b .term ≤ f .term → Decides (t .last) d offered terms orders (current (message-of f) (state-of t terms orders))
     → Decides (b .last) d offered terms orders (deliver (message-of f) (state-of b terms orders))
-taken-decides b t f terms orders {d} {offered} e h k =
-    let s : State = state-of b terms orders in
-    subst (λ (n : ℕ). Decides n d offered terms orders (deliver (message-of f) s)) (e .last)
-    (decides-as k (deliver-taken f s h (state-of t terms orders) (becomes-lent e terms orders)))
+taken-decides b t f terms orders e h k =
+    decides-at (e .last) (deliver-taken f (state-of b terms orders) h (state-of t terms orders) (becomes-lent e terms orders)) k
 
 -- ---- any bytes
 

@@ -2,11 +2,13 @@
 use Prim.Native.Nat.{ℕ, _+_, _≤_}
 use mathlib.Core.Path.{_≡_}
 use mathlib.Core.Bool.{true}
-use mathlib.Core.List.{List}
+use mathlib.Core.List.{List, [], _∷_}
 use lib.ListN.{length}
+use Rattle.frames.specs.declared.Entry.{Entry}
 use Rattle.frames.specs.declared.Fields.{Fields}
-use Rattle.frames.specs.Fields.{one-frame}
+use Rattle.frames.specs.Fields.{listed, one-frame}
 use Rattle.frames.specs.Limits.{log-limit, entry-limit}
+use Rattle.raft.specs.Order.{blank}
 use Rattle.record.specs.declared.Record.{Record}
 use Rattle.record.specs.Calls.{Ready}
 use Rattle.record.specs.Deciding.{OtherBox}
@@ -41,3 +43,13 @@ pub record Read (b : Record) (f : Fields) (terms orders : List ℕ) : Type 0 whe
 pub record Delivered (b : Record) (f : Fields) (terms orders : List ℕ) : Type 0 where
   pub read : Read b f terms orders
   pub sender : OtherBox b (f .from)
+
+-- and the box is in its term.
+pub record InTerm (b : Record) (f : Fields) (terms orders : List ℕ) : Type 0 where
+  pub delivered : Delivered b f terms orders
+  pub same : b .term ≡ f .term
+
+-- The entries that a message may add: an append's own, and a vote answer's the blank of its term, for the box that it makes a leader.
+pub record Brings (f : Fields) (offered : List Entry) : Type 0 where
+  pub appended : f .kind ≡ 3 → offered ≡ f .entries
+  pub elected : f .kind ≡ 2 → listed offered 0 1 ≡ record { term = f .term; order = blank } ∷ []

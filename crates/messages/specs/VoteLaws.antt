@@ -10,16 +10,13 @@ use Rattle.digits.specs.Tests.{and-left}
 use Rattle.frames.specs.Message.{vote-answer}
 use Rattle.record.specs.declared.Record.{Record}
 use Rattle.raft.specs.Majority.{bit, majority}
-use Rattle.raft.specs.Record.{State, candidate, term-at, with-vote}
-use Rattle.raft.specs.RecordLaws.{Good}
+use Rattle.raft.specs.Record.{State, candidate, term-at, with-vote, good}
+use Rattle.raft.specs.RecordLaws.{facts-good}
 use Rattle.raft.specs.LentLaws.{length-entries-of}
-use Rattle.raft.specs.Commit.{settle}
-use Rattle.raft.specs.Sends.{appends}
 use Rattle.raft.specs.Outcome.{done}
-use Rattle.raft.specs.Winning.{leading, won}
+use Rattle.raft.specs.Winning.{won}
 use Rattle.raft.specs.VoteRequest.{is-granted, grants, voting, asked, on-vote-request}
 use Rattle.raft.specs.VoteAnswer.{adding, counted, counts, on-vote-answer}
-use Rattle.raft.specs.StepLaws.{good-leading}
 use Rattle.raft.specs.ReceiveLaws.{other-held, good-adding}
 use Rattle.record.specs.Calls.{entries-of, state-of}
 use Rattle.record.specs.GoodLaws.{ready-good}
@@ -62,22 +59,20 @@ module _ (s : State) (from reply : ℕ) where
 
     -- it wins
     pub answer-wins : majority (s .members) (bitOr (s .votes) (bit from)) ≡ true
-        → done (settle (leading (adding s from))) (appends (settle (leading (adding s from)))) ≡ on-vote-answer s from reply
-    unfolding on-vote-answer counted adding won
+        → won (adding s from) ≡ on-vote-answer s from reply
+    unfolding on-vote-answer counted adding
     answer-wins m = rw (c, m)
 
     -- only a candidate counts
-    counts-stands : s .role ≡ candidate
+    pub counts-stands : s .role ≡ candidate
     unfolding counts
     counts-stands = eqb-true (s .role) candidate (and-left (eqb (s .role) candidate) _ c)
 
--- A box that wins by another member's vote is good.
-pub wins-good : (b : Record) (from reply : ℕ) (terms orders : List ℕ) → From b from terms orders → counts (state-of b terms orders) reply ≡ true
-    → Good (leading (adding (state-of b terms orders) from))
-unfolding adding
-wins-good b from reply terms orders f c =
+-- A candidate that counts another member's vote is good.
+pub counted-good : (b : Record) (from reply : ℕ) (terms orders : List ℕ) → From b from terms orders → counts (state-of b terms orders) reply ≡ true
+    → good (adding (state-of b terms orders) from) ≡ true
+counted-good b from reply terms orders f c =
     let s : State = state-of b terms orders in
-    let stands = counts-stands s from reply c in
     let box = f .sender .box in
-    good-leading (adding s from)
-    (good-adding s from (ready-good (f .ready)) stands (box .least) (box .most) (other-held (b .me) (b .members) from (f .sender .other) .1)) stands
+    facts-good (adding s from)
+    (good-adding s from (ready-good (f .ready)) (counts-stands s from reply c) (box .least) (box .most) (other-held (b .me) (b .members) from (f .sender .other) .1))

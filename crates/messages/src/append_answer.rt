@@ -1,8 +1,8 @@
 // "Append answer", at a box that is in the answer's term.
-use changes::heard;
 use changes::refuse;
-use changes::settled;
 use changes::step;
+use leader::heard;
+use leader::settled;
 use record::Decision;
 use record::Record;
 use record::Send;

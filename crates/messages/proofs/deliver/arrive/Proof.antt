@@ -25,8 +25,8 @@ returns c =
     let entered = at-is-for .before .before .before in
     let terms = entered .args .terms .now in
     let orders = entered .args .orders .now in
-    rw (c .refuse .ensures)
-    (refuse-decides (entered .args .n) (entered .args .f .entries) terms orders 2 (ready-last (entered .pre .ready)) (omega arith)
+    λ offered b. rw (c .refuse .ensures)
+    (refuse-decides (entered .args .n) offered terms orders 2 (ready-last (entered .pre .ready)) (omega arith)
     (arrive-not (entered .args .f) (state-of (entered .args .n) terms orders) (sym (at-is-for .is-for .ensures terms orders) ∙ not-true _ (at-if1 .if1 .taken))))
 
 deliver-requires : tie.Need-deliver-requires
@@ -42,7 +42,7 @@ returns-2 c =
     let entered = at-is-for .before .before .before in
     let terms = entered .args .terms .now in
     let orders = entered .args .orders .now in
-    decides-as (c .deliver .ensures)
+    λ offered b. decides-as (c .deliver .ensures offered b)
     (arrive-for (entered .args .f) (state-of (entered .args .n) terms orders) (sym (at-is-for .is-for .ensures terms orders) ∙ not-false _ (at-if1 .if1 .left)))
 
 pub arrive-spec : {M : Type 1} → statement M

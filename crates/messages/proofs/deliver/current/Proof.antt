@@ -10,44 +10,44 @@ use Rattle.messages.proofs.deliver.current.Tie as tie
 vote-request-requires : tie.Need-vote-request-requires
 vote-request-requires c κs =
     let entered = c .before .before .before in
-    delivered-lent (entered .pre)
+    delivered-lent (entered .pre .delivered)
 
 returns : tie.Need-returns
 returns c =
     let at-if1 = c .before in
     let entered = at-if1 .before .before .before in
-    decides-as (c .vote-request .ensures (entered .args .f .entries) (entered .args .orders .now))
+    λ offered b. decides-as (c .vote-request .ensures offered (entered .args .orders .now))
     (current-1 (entered .args .f) (state-of (entered .args .t) (entered .args .terms .now) (entered .args .orders .now)) (at-if1 .if1 .taken))
 
 vote-answer-requires : tie.Need-vote-answer-requires
 vote-answer-requires c κs =
     let entered = c .before .before .before .before in
-    delivered-from (entered .pre)
+    delivered-from (entered .pre .delivered)
 
 returns-2 : tie.Need-returns-2
 returns-2 c =
     let at-if2 = c .before in
     let entered = at-if2 .before .before .before .before in
-    decides-as (c .vote-answer .ensures (entered .args .f .entries))
+    λ offered b. decides-as (c .vote-answer .ensures offered (rw (entered .pre .same) (b .elected (at-if2 .if2 .taken))))
     (current-2 (entered .args .f) (state-of (entered .args .t) (entered .args .terms .now) (entered .args .orders .now)) (at-if2 .if2 .taken))
 
 append-requires : tie.Need-append-requires
 append-requires c κs =
     let at-if3 = c .before in
     let entered = at-if3 .before .before .before .before .before in
-    delivered-offered (entered .pre) (at-if3 .if3 .taken)
+    delivered-offered (entered .pre .delivered) (at-if3 .if3 .taken)
 
 returns-3 : tie.Need-returns-3
 returns-3 c =
     let at-if3 = c .before .before in
     let entered = at-if3 .before .before .before .before .before in
-    decides-as (c .append .ensures (entered .args .orders .now))
-    (current-3 (entered .args .f) (state-of (entered .args .t) (entered .args .terms .now) (entered .args .orders .now)) (at-if3 .if3 .taken))
+    λ offered b. rw (b .appended (at-if3 .if3 .taken)) (decides-as (c .append .ensures (entered .args .orders .now))
+    (current-3 (entered .args .f) (state-of (entered .args .t) (entered .args .terms .now) (entered .args .orders .now)) (at-if3 .if3 .taken)))
 
 append-answer-requires : tie.Need-append-answer-requires
 append-answer-requires c κs =
     let entered = c .before .before .before .before .before in
-    delivered-from (entered .pre)
+    delivered-from (entered .pre .delivered)
 
 returns-4 : tie.Need-returns-4
 returns-4 c =
@@ -55,7 +55,7 @@ returns-4 c =
     let at-if2 = at-if3 .before in
     let at-if1 = at-if2 .before in
     let entered = at-if1 .before .before .before in
-    decides-as (c .append-answer .ensures (entered .args .f .entries))
+    λ offered b. decides-as (c .append-answer .ensures offered)
     (current-4 (entered .args .f) (state-of (entered .args .t) (entered .args .terms .now) (entered .args .orders .now)) (at-if1 .if1 .left) (at-if2 .if2 .left) (at-if3 .if3 .left))
 
 pub current-spec : {M : Type 1} → statement M

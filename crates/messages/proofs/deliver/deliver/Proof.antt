@@ -4,7 +4,7 @@ use native.Mathlib.Omega.{arith}
 use Rattle.record.specs.Calls.{state-of}
 use Rattle.record.specs.DecidingLaws.{decides-as}
 use Rattle.record.specs.GoodLaws.{ready-last}
-use Rattle.messages.specs.DeliverLaws.{deliver-low, taken-decides, delivered-taken}
+use Rattle.messages.specs.DeliverLaws.{deliver-low, taken-decides, taken-in-term}
 use Rattle.messages.proofs.deliver.deliver.Statement.{statement}
 use Rattle.messages.proofs.deliver.deliver.Tie as tie
 
@@ -17,7 +17,7 @@ returns : tie.Need-returns
 returns c =
     let at-if1 = c .before in
     let entered = at-if1 .before .before .before .before .before in
-    decides-as (c .stale .ensures (entered .args .f .entries) (entered .args .terms .now) (entered .args .orders .now))
+    λ offered b. decides-as (c .stale .ensures offered (entered .args .terms .now) (entered .args .orders .now))
     (deliver-low (entered .args .f) (state-of (entered .args .n) (entered .args .terms .now) (entered .args .orders .now)) (at-if1 .if1 .taken))
 
 taken-requires : tie.Need-taken-requires
@@ -26,14 +26,14 @@ taken-requires c κs = search needs
 current-requires : tie.Need-current-requires
 current-requires c κs =
     let entered = c .before .before .before .before .before .before in
-    delivered-taken (entered .pre) _ (c .taken .ensures)
+    taken-in-term (entered .pre) (omega (arith, c .before .if1 .left)) _ (c .taken .ensures)
 
 returns-2 : tie.Need-returns-2
 returns-2 c =
     let at-taken = c .before in
     let at-if1 = at-taken .before in
     let entered = at-if1 .before .before .before .before .before in
-    taken-decides (entered .args .n) _ (entered .args .f) (entered .args .terms .now) (entered .args .orders .now) (at-taken .taken .ensures) (omega (arith, at-if1 .if1 .left)) (c .current .ensures)
+    λ offered b. taken-decides (entered .args .n) _ (entered .args .f) (entered .args .terms .now) (entered .args .orders .now) (at-taken .taken .ensures) (omega (arith, at-if1 .if1 .left)) (c .current .ensures offered b)
 
 pub deliver-spec : {M : Type 1} → statement M
 deliver-spec =

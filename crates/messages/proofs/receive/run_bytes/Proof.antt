@@ -1,4 +1,4 @@
--- No frame is 1; what a frame's message decides is finished with the entries that it carries.
+-- No frame is 1; what a frame's message decides is finished with the entries that it brings.
 use borrow.Author.Needs.{needs}
 use mathlib.Core.Path.{sym, ap, _∙_}
 use Rattle.raft.specs.Event.{step, receives}
@@ -30,16 +30,20 @@ arrive-requires c κs =
     let entered = at-read .before .before .before .before .before .before in
     record { ready = entered .pre; frame = read-frame (entered .args .bytes .now) _ (at-read .read .ensures) (at-if1 .if1 .left) .0 }
 
+offered-requires : tie.Need-offered-requires
+offered-requires c κs = search needs
+
 finish-adding-requires : tie.Need-finish-adding-requires
 unfolding step
 finish-adding-requires c κs =
-    let at-arrive = c .before .before .before .before .before in
+    let at-offered = c .before .before .before .before in
+    let at-arrive = at-offered .before in
     let at-if1 = at-arrive .before .before .before .before in
     let at-read = at-if1 .before .before in
     let entered = at-read .before .before .before .before .before .before in
     let frame = read-frame (entered .args .bytes .now) _ (at-read .read .ensures) (at-if1 .if1 .left) in
     sound (receives (entered .args .bytes .now)) (entered .pre)
-    (decides-as (at-arrive .arrive .ensures) (frame .1 (state-of (entered .args .n) (entered .args .terms .now) (entered .args .orders .now))))
+    (decides-as (at-arrive .arrive .ensures _ (at-offered .offered .ensures)) (frame .1 (state-of (entered .args .n) (entered .args .terms .now) (entered .args .orders .now))))
 
 same-length : tie.Need-same-length
 same-length c = search needs
@@ -57,12 +61,13 @@ returns-2 : tie.Need-returns-2
 unfolding step
 returns-2 c =
     let at-finish-adding = c .before .before .before .before .before .before .before .before in
-    let at-arrive = at-finish-adding .before .before .before .before .before .before in
+    let at-offered = at-finish-adding .before .before .before .before .before in
+    let at-arrive = at-offered .before in
     let at-if1 = at-arrive .before .before .before .before in
     let at-read = at-if1 .before .before in
     let entered = at-read .before .before .before .before .before .before in
     let frame = read-frame (entered .args .bytes .now) _ (at-read .read .ensures) (at-if1 .if1 .left) in
-    let decides = decides-as (at-arrive .arrive .ensures) (frame .1 (state-of (entered .args .n) (entered .args .terms .now) (entered .args .orders .now))) in
+    let decides = decides-as (at-arrive .arrive .ensures _ (at-offered .offered .ensures)) (frame .1 (state-of (entered .args .n) (entered .args .terms .now) (entered .args .orders .now))) in
     at-finish-adding .finish-adding .ensures ∙ finished (receives (entered .args .bytes .now)) (entered .pre) decides (entered .args .journal .now) (entered .args .messages .now)
 
 pub run-bytes-spec : {M : Type 1} → statement M
@@ -73,6 +78,7 @@ run-bytes-spec =
     refused-requires
     returns
     arrive-requires
+    offered-requires
     finish-adding-requires
     same-length
     same-length-2

@@ -1,15 +1,14 @@
--- The definition's three cases; a winner's record is the one that leads.
+-- The definition's three cases; who wins is a candidate still, and good, so it can lead.
 use borrow.Author.Needs.{needs}
-use native.Mathlib.Omega.{arith}
 use mathlib.Core.Path.{refl, sym, _∙_}
 use borrow.Author.Tests.{not-true, not-false}
 use Rattle.raft.specs.VoteAnswer.{adding, counts}
 use Rattle.record.specs.declared.Send.{Send}
 use Rattle.record.specs.Calls.{state-of}
 use Rattle.record.specs.Deciding.{messages-of, Aimed}
-use Rattle.record.specs.DecidingLaws.{plain-decides, changed-decides}
+use Rattle.record.specs.DecidingLaws.{plain-decides, changed-decides, decides-as}
 use Rattle.record.specs.GoodLaws.{ready-last}
-use Rattle.messages.specs.VoteLaws.{answer-idle, answer-counts, answer-wins, wins-good}
+use Rattle.messages.specs.VoteLaws.{answer-idle, answer-counts, answer-wins, counts-stands, counted-good}
 use Rattle.messages.proofs.vote_answer.vote_answer.Statement.{statement}
 use Rattle.messages.proofs.vote_answer.vote_answer.Tie as tie
 
@@ -22,7 +21,7 @@ returns c =
     let at-if1 = c .before in
     let entered = at-if1 .before .before .before .before in
     let s = state-of (entered .args .t) (entered .args .terms .now) (entered .args .orders .now) in
-    λ offered. rw (c .step .ensures)
+    λ offered f. rw (c .step .ensures)
     (plain-decides (entered .args .t) offered (entered .args .terms .now) (entered .args .orders .now) Send.Nothing (ready-last (entered .pre .ready)) tt
     (answer-idle s (entered .args .from) (entered .args .reply) (not-true _ (at-if1 .if1 .taken))))
 
@@ -46,7 +45,7 @@ returns-2 c =
     let entered = at-if1 .before .before .before .before in
     let s = state-of (entered .args .t) (entered .args .terms .now) (entered .args .orders .now) in
     let few = rw (at-bit .bit .ensures) at (sym (at-is-majority .is-majority .ensures) ∙ not-true _ (at-if2 .if2 .taken)) in
-    λ offered. rw (c .step2 .ensures)
+    λ offered f. rw (c .step2 .ensures)
     (changed-decides (entered .args .t) _ offered (entered .args .terms .now) (entered .args .orders .now) Send.Nothing refl (ready-last (entered .pre .ready)) tt
     (rw (at-bit .bit .ensures) (answer-counts s (entered .args .from) (entered .args .reply) (not-false _ (at-if1 .if1 .left)) few)))
 
@@ -56,32 +55,30 @@ won-requires c κs =
     let at-bit = c .before .before .before in
     let at-if1 = at-bit .before in
     let entered = at-if1 .before .before .before .before in
+    let s = state-of (entered .args .t) (entered .args .terms .now) (entered .args .orders .now) in
+    let counted = not-false _ (at-if1 .if1 .left) in
     record {
-      last = ready-last (entered .pre .ready);
-      in-terms = omega (arith, ready-last (entered .pre .ready), entered .pre .ready .terms-long);
-      leads =
-          rw (at-bit .bit .ensures) (wins-good (entered .args .t) (entered .args .from) (entered .args .reply) (entered .args .terms .now) (entered .args .orders .now)
-          (entered .pre) (not-false _ (at-if1 .if1 .left)));
+      ready = record {
+        terms-long = entered .pre .ready .terms-long;
+        orders-long = entered .pre .ready .orders-long;
+        rules = rw (at-bit .bit .ensures)
+            (counted-good (entered .args .t) (entered .args .from) (entered .args .reply) (entered .args .terms .now) (entered .args .orders .now) (entered .pre) counted);
+      };
+      stands = counts-stands s (entered .args .from) (entered .args .reply) counted;
     }
 
-step-requires-3 : tie.Need-step-requires-3
-step-requires-3 c κs = search needs
-
 returns-3 : tie.Need-returns-3
-unfolding messages-of Aimed counts adding
+unfolding counts adding
 returns-3 c =
-    let at-won = c .before in
-    let at-if2 = at-won .before in
+    let at-if2 = c .before in
     let at-is-majority = at-if2 .before in
     let at-bit = at-is-majority .before .before in
     let at-if1 = at-bit .before in
     let entered = at-if1 .before .before .before .before in
     let s = state-of (entered .args .t) (entered .args .terms .now) (entered .args .orders .now) in
     let most = rw (at-bit .bit .ensures) at (sym (at-is-majority .is-majority .ensures) ∙ not-false _ (at-if2 .if2 .left)) in
-    λ offered. rw (c .step3 .ensures)
-    (changed-decides (entered .args .t) _ offered (entered .args .terms .now) (entered .args .orders .now) Send.Appends (at-won .won .ensures .1)
-    (ready-last (entered .pre .ready)) tt
-    (rw (at-won .won .ensures .0, at-bit .bit .ensures) (answer-wins s (entered .args .from) (entered .args .reply) (not-false _ (at-if1 .if1 .left)) most)))
+    λ offered f. decides-as (c .won .ensures .0 offered f)
+    (rw (at-bit .bit .ensures) (answer-wins s (entered .args .from) (entered .args .reply) (not-false _ (at-if1 .if1 .left)) most))
 
 pub vote-answer-spec : {M : Type 1} → statement M
 vote-answer-spec =
@@ -94,5 +91,4 @@ vote-answer-spec =
     step-requires-2
     returns-2
     won-requires
-    step-requires-3
     returns-3)
