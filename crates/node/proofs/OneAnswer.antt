@@ -59,14 +59,7 @@ start-one-answer κs a r r' s s' p q =
       ap (λ (x : Begun). x .journal) same,
     )
 
--- ---- `timeout` and `prompt`: the answer, and the room for journal and messages; the log is lent to be read alone
-
-pub timeout-requires-nothing : (κs : _) (a : _) → timeout.Pre κs a
-timeout-requires-nothing κs a = tt
-
-pub timeout-one-answer : (κs : _) (a : _) (r r' : _) (s s' : _) → timeout.Post κs a r s → timeout.Post κs a r' s'
-    → (r ≡ r') × (now (s .1 .1 .1 .0) ≡ now (s' .1 .1 .1 .0)) × (now (s .1 .1 .1 .1 .0) ≡ now (s' .1 .1 .1 .1 .0))
-timeout-one-answer κs a r r' s s' p q = let same = same-called r r' (p ∙ sym q) in (same .0, same .3, same .4)
+-- ---- `prompt`: the answer, and the room for journal and messages; the log is lent to be read alone
 
 pub prompt-requires-nothing : (κs : _) (a : _) → prompt.Pre κs a
 prompt-requires-nothing κs a = tt
@@ -75,7 +68,15 @@ pub prompt-one-answer : (κs : _) (a : _) (r r' : _) (s s' : _) → prompt.Post 
     → (r ≡ r') × (now (s .1 .1 .1 .0) ≡ now (s' .1 .1 .1 .0)) × (now (s .1 .1 .1 .1 .0) ≡ now (s' .1 .1 .1 .1 .0))
 prompt-one-answer κs a r r' s s' p q = let same = same-called r r' (p ∙ sym q) in (same .0, same .3, same .4)
 
--- ---- `order` and `receive`: the answer, the log's terms and orders, and the room for journal and messages
+-- ---- `timeout`, `order` and `receive`: the answer, the log's terms and orders, and the room for journal and messages
+
+pub timeout-requires-nothing : (κs : _) (a : _) → timeout.Pre κs a
+timeout-requires-nothing κs a = tt
+
+pub timeout-one-answer : (κs : _) (a : _) (r r' : _) (s s' : _) → timeout.Post κs a r s → timeout.Post κs a r' s'
+    → (r ≡ r') × (now (s .1 .0) ≡ now (s' .1 .0)) × (now (s .1 .1 .0) ≡ now (s' .1 .1 .0))
+    × (now (s .1 .1 .1 .0) ≡ now (s' .1 .1 .1 .0)) × (now (s .1 .1 .1 .1 .0) ≡ now (s' .1 .1 .1 .1 .0))
+timeout-one-answer κs a r r' s s' p q = same-called r r' (p ∙ sym q)
 
 pub order-requires-nothing : (κs : _) (a : _) → order.Pre κs a
 order-requires-nothing κs a = tt

@@ -76,16 +76,16 @@ impl Node {
     // "Timeout. Leader: nothing. Otherwise term + 1, candidate, .."
     pub fn timeout(
         self,
-        terms: &[u32; Node::LOG],
-        orders: &[u64; Node::LOG],
+        terms: &mut [u32; Node::LOG],
+        orders: &mut [u64; Node::LOG],
         journal: &mut [u8],
         messages: &mut [u8],
     ) -> Answer
         ensures { λ r. ⌜ Calls times-out self (now (terms .entry)) (now (orders .entry)) (now (journal .entry)) (now (messages .entry)) r
-            (now (terms .entry)) (now (orders .entry)) (now (journal .exit)) (now (messages .exit)) ⌝ }
+            (now (terms .exit)) (now (orders .exit)) (now (journal .exit)) (now (messages .exit)) ⌝ }
     {
         let n = self.state;
-        if !is_good(n, terms) {
+        if !is_good(n, &terms[..]) {
             return boxed(finishing::refused(n, 12));
         }
         boxed(events::run_timeout(n, terms, orders, journal, messages))

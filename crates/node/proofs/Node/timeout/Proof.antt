@@ -20,18 +20,20 @@ returns c =
     let at-refused = c .before in
     let at-if1 = at-refused .before in
     let at-is-good = at-if1 .before in
-    let entered = at-is-good .before .before .before .before .before in
+    let entered = at-is-good .before .before .before .before .before .before in
     let terms = entered .args .terms .now in
     let orders = entered .args .orders .now in
     rw (c .boxed .ensures, at-refused .refused .ensures)
-    (looked-bad (entered .args .self .state) terms orders (at-is-good .is-good .ensures orders) (at-if1 .if1 .taken) times-out (entered .args .journal .now) (entered .args .messages .now))
+    (looked-bad (entered .args .self .state) terms orders (at-is-good .is-good .ensures orders) (at-if1 .if1 .taken) times-out
+    (entered .args .journal .now) (entered .args .messages .now))
 
 run-timeout-requires : tie.Need-run-timeout-requires
 run-timeout-requires c κs =
     let at-if1 = c .before .before .before .before in
     let at-is-good = at-if1 .before in
-    let entered = at-is-good .before .before .before .before .before in
-    looked-ready (entered .args .self .state) (entered .args .terms .now) (entered .args .orders .now) (at-is-good .is-good .ensures (entered .args .orders .now)) (at-if1 .if1 .left)
+    let entered = at-is-good .before .before .before .before .before .before in
+    looked-ready (entered .args .self .state) (entered .args .terms .now) (entered .args .orders .now) (at-is-good .is-good .ensures (entered .args .orders .now))
+    (at-if1 .if1 .left)
     (search needs) (search needs)
 
 boxed-requires-2 : tie.Need-boxed-requires-2
@@ -48,12 +50,13 @@ returns-2 c =
     let at-run-timeout = c .before .before .before .before .before in
     let at-if1 = at-run-timeout .before .before .before .before .before in
     let at-is-good = at-if1 .before in
-    let entered = at-is-good .before .before .before .before .before in
+    let entered = at-is-good .before .before .before .before .before .before in
     let terms = entered .args .terms .now in
     let orders = entered .args .orders .now in
     rw (c .boxed2 .ensures)
     (at-run-timeout .run-timeout .ensures
-    ∙ looked-good (entered .args .self .state) terms orders (at-is-good .is-good .ensures orders) (at-if1 .if1 .left) times-out (entered .args .journal .now) (entered .args .messages .now))
+    ∙ looked-good (entered .args .self .state) terms orders (at-is-good .is-good .ensures orders) (at-if1 .if1 .left) times-out
+    (entered .args .journal .now) (entered .args .messages .now))
 
 pub timeout-spec : {M : Type 1} → statement M
 timeout-spec =
