@@ -29,14 +29,14 @@ fn put_answer(n: &mut [u64; 22], sizes: &mut [u64; 2], a: Answer) -> u8
 #[no_mangle]
 pub extern "C" fn box_timeout(
     n: &mut [u64; 22],
-    terms: &[u32; Record::LOG],
-    orders: &[u64; Record::LOG],
+    terms: &mut [u32; Record::LOG],
+    orders: &mut [u64; Record::LOG],
     journal: &mut [u8],
     room: &mut [u8],
     sizes: &mut [u64; 2],
 ) -> u8
     ensures { λ r. ⌜ Steps times-out (now (n .entry)) (now (terms .entry)) (now (orders .entry)) (now (journal .entry)) (now (room .entry)) (now (sizes .entry)) r
-        (now (n .exit)) (now (terms .entry)) (now (orders .entry)) (now (journal .exit)) (now (room .exit)) (now (sizes .exit)) ⌝ }
+        (now (n .exit)) (now (terms .exit)) (now (orders .exit)) (now (journal .exit)) (now (room .exit)) (now (sizes .exit)) ⌝ }
 {
     if !box_range(n) {
         return 12;

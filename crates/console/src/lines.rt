@@ -64,7 +64,7 @@ fn step(
         return finishing::refused(n, 12);
     }
     if is_letter(b't', line) {
-        return events::run_timeout(n, &terms[..], &orders[..], journal, messages);
+        return events::run_timeout(n, terms, orders, journal, messages);
     }
     if is_letter(b'p', line) {
         return events::run_prompt(n, &terms[..], &orders[..], journal, messages);

@@ -42,7 +42,7 @@ same-length-4 c = search needs
 
 returns-2 : tie.Need-returns-2
 returns-2 c =
-    let at-run-timeout = c .before .before .before .before in
+    let at-run-timeout = c .before .before .before .before .before .before .before .before in
     let at-if2 = at-run-timeout .before .before .before .before .before in
     let at-is-letter = at-if2 .before in
     let at-if1 = at-is-letter .before in
