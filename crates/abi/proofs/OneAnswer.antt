@@ -74,18 +74,18 @@ box-start-one-answer κs a r r' s s' p q =
       ap (λ (x : StartFlat). x .room) same,
     )
 
--- ---- `box_timeout`: the number, the box, and the room for journal and messages, and the sizes; the log is lent to be read alone
+-- ---- `box_timeout`: the number, the box, the log's terms and orders, the room for journal and messages, and the sizes
 
 pub box-timeout-requires-nothing : (κs : _) (a : _) → box-timeout.Pre κs a
 box-timeout-requires-nothing κs a = tt
 
 pub box-timeout-one-answer : (κs : _) (a : _) (r r' : _) (s s' : _) → box-timeout.Post κs a r s → box-timeout.Post κs a r' s'
-    → (r ≡ r') × (now (s .0) ≡ now (s' .0))
+    → (r ≡ r') × (now (s .0) ≡ now (s' .0)) × (now (s .1 .0) ≡ now (s' .1 .0)) × (now (s .1 .1 .0) ≡ now (s' .1 .1 .0))
     × (now (s .1 .1 .1 .0) ≡ now (s' .1 .1 .1 .0)) × (now (s .1 .1 .1 .1 .0) ≡ now (s' .1 .1 .1 .1 .0))
     × (now (s .1 .1 .1 .1 .1 .0) ≡ now (s' .1 .1 .1 .1 .1 .0))
-box-timeout-one-answer κs a r r' s s' p q = let same = same-steps (p ∙ sym q) in (same .0, same .1, same .4, same .5, same .6)
+box-timeout-one-answer κs a r r' s s' p q = same-steps (p ∙ sym q)
 
--- ---- `box_prompt`: the same
+-- ---- `box_prompt`: the number, the box, the room for journal and messages, and the sizes; the log is lent to be read alone
 
 pub box-prompt-requires-nothing : (κs : _) (a : _) → box-prompt.Pre κs a
 box-prompt-requires-nothing κs a = tt
@@ -96,7 +96,7 @@ pub box-prompt-one-answer : (κs : _) (a : _) (r r' : _) (s s' : _) → box-prom
     × (now (s .1 .1 .1 .1 .1 .0) ≡ now (s' .1 .1 .1 .1 .1 .0))
 box-prompt-one-answer κs a r r' s s' p q = let same = same-steps (p ∙ sym q) in (same .0, same .1, same .4, same .5, same .6)
 
--- ---- `box_order`: the number, the box, the log's terms and orders, the room for journal and messages, and the sizes
+-- ---- `box_order`: as `box_timeout`
 
 pub box-order-requires-nothing : (κs : _) (a : _) → box-order.Pre κs a
 box-order-requires-nothing κs a = tt

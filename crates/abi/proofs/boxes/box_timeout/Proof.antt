@@ -34,7 +34,7 @@ same-length-2 c = search needs
 returns-2 : tie.Need-returns-2
 returns-2 c =
     let at-timeout = c .before .before .before .before .before .before .before in
-    let at-box-in = at-timeout .before .before .before in
+    let at-box-in = at-timeout .before .before .before .before .before in
     let at-if1 = at-box-in .before .before in
     let at-box-range = at-if1 .before in
     let entered = at-box-range .before .before .before .before in
