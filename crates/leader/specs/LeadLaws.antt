@@ -1,6 +1,6 @@
 -- The struct that begins to lead, on the lent log: its record is good, and what is decided of it is what winning comes to. Assumes nothing.
 use Prim.Native.Nat.{ℕ, _≤_, _<_}
-use mathlib.Core.Path.{_≡_, sym, ap, _∙_}
+use mathlib.Core.Path.{_≡_, ap, _∙_}
 use mathlib.Core.List.{List}
 use Rattle.frames.specs.declared.Entry.{Entry}
 use Rattle.frames.specs.Limits.{log-limit}
@@ -9,8 +9,7 @@ use Rattle.raft.specs.Commit.{settle}
 use Rattle.raft.specs.Led.{led}
 use Rattle.raft.specs.Order.{ordered, blank}
 use Rattle.raft.specs.Winning.{leading, won}
-use Rattle.raft.specs.StepLaws.{good-leading}
-use Rattle.raft.specs.WinningLaws.{won-full, won-room}
+use Rattle.raft.specs.StepLaws.{good-leading, winner-full, winner-room}
 use Rattle.raft.specs.LentLaws.{length-entries-of}
 use Rattle.record.specs.declared.Record.{Record}
 use Rattle.record.specs.declared.Send.{Send}
@@ -38,14 +37,15 @@ module _ {b first : Record} {terms orders : List ℕ} (k : Becomes b first leadi
   -- With a full log its commit is settled, and that is all;
   pub full-decides : log-limit ≤ b .last → (next : Record) → state-of next terms orders ≡ settle (state-of first terms orders) → next .last ≡ first .last
       → (offered : List Entry) → Decides (b .last) (plain next Send.Appends) offered terms orders (won (state-of b terms orders))
-  unfolding messages-of Aimed
+  unfolding messages-of Aimed won
   full-decides l next e n offered =
       changed-decides b next offered terms orders Send.Appends (n ∙ k .last) (ready-last (may .ready)) tt
-      (rw (e, becomes-lent k terms orders) (sym (won-full (state-of b terms orders) (rw (length-entries-of terms orders 0 (b .last)) l))))
+      (rw (e, becomes-lent k terms orders) (rw (winner-full (state-of b terms orders) (rw (length-entries-of terms orders 0 (b .last)) l))))
 
   -- where there is room, what is decided for the blank's entry is decided for winning.
   pub blank-decides : b .last < log-limit → {d : Decision} {offered : List Entry}
       → Decides (first .last) d offered terms orders (led (ordered (state-of first terms orders) blank))
       → Decides (b .last) d offered terms orders (won (state-of b terms orders))
+  unfolding won
   blank-decides l h =
-      decides-at (k .last) (rw (becomes-lent k terms orders) (sym (won-room (state-of b terms orders) (rw (length-entries-of terms orders 0 (b .last)) l)))) h
+      decides-at (k .last) (rw (becomes-lent k terms orders) (rw (winner-room (state-of b terms orders) (rw (length-entries-of terms orders 0 (b .last)) l)))) h

@@ -3,11 +3,12 @@ use Prim.Native.Nat.{ℕ, zero, suc, _+_, _-_, _≤_, _<_, max}
 use native.Mathlib.Decide.{decLe}
 use native.Mathlib.Nat.{le-refl, le-antisymm}
 use native.Mathlib.Omega.{arith}
-use mathlib.Core.Path.{_≡_, refl, sym, _∙_}
+use mathlib.Core.Path.{_≡_, refl, sym, ap, _∙_}
 use mathlib.Core.Bool.{Bool, true, false, cond, _&&_}
-use mathlib.Core.List.{List, [], _∷_}
+use mathlib.Core.List.{List, [], _∷_, _++_}
 use lib.Dec.{eqb, ltb, leb}
-use lib.ListN.{length, getD}
+use lib.ListN.{length, getD, List·getD-append}
+use lib.Seq.{getD-append-seam}
 use borrow.Author.Tests.{eqb-true, ltb-true, ltb-false, leb-true, eq-eqb, le-leb, lt-leb}
 use Rattle.digits.specs.Tests.{and-left, and-right, and-both}
 use Rattle.frames.specs.declared.Entry.{Entry}
@@ -153,6 +154,22 @@ term-at-mono t log h i j l m = rw (term-there log i, term-there log j) (terms-ri
 -- and none is above the record's
 pub term-at-most : (t : ℕ) (log : List Entry) → in-order 0 t log ≡ true → (j : ℕ) → j ≤ length log → term-at log j ≤ t
 term-at-most t log h j m = rw (term-there log j) (terms-from no-entry t log h j m .1)
+
+-- ---- a log with one entry more
+
+-- the older entries keep their terms
+pub term-front : (log : List Entry) (e : Entry) (i : ℕ) → i ≤ length log → term-at (log ++ (e ∷ [])) i ≡ term-at log i
+unfolding term-at
+term-front log e zero h = refl
+term-front log e (suc i) h = ap (λ (x : Entry). x .term) (List·getD-append log (e ∷ []) no-entry i h)
+
+-- and the new one has its own
+pub term-new : (log : List Entry) (e : Entry) (i : ℕ) → i ≡ length log + 1 → term-at (log ++ (e ∷ [])) i ≡ e .term
+unfolding term-at
+term-new log e zero h = absurd (omega arith)
+term-new log e (suc i) h =
+    let last : i ≡ length log = omega arith in
+    ap (λ (k : ℕ). getD (log ++ (e ∷ [])) k no-entry .term) last ∙ ap (λ (x : Entry). x .term) (getD-append-seam log e [] no-entry)
 
 -- ---- the largest-matched of what the boxes match
 

@@ -1,12 +1,13 @@
 -- A good record stays good over every step. Assumes nothing.
 use Prim.Native.Nat.{ℕ, zero, suc, _+_, _≤_, _<_}
+use native.Mathlib.Decide.{decLe}
 use native.Mathlib.Omega.{arith}
 use mathlib.Core.Path.{_≡_, refl}
 use mathlib.Core.Bool.{Bool, true, false, not, cond, _&&_, _||_}
 use mathlib.Core.List.{List, [], _∷_, _++_}
 use lib.Dec.{eqb, ltb, leb}
 use lib.ListN.{length-append}
-use borrow.Author.Tests.{eqb-true, eqb-false, leb-true, leb-false, le-leb, lt-ltb, eq-eqb, ne-eqb}
+use borrow.Author.Tests.{eqb-true, eqb-false, leb-true, leb-false, le-leb, lt-leb, lt-ltb, eq-eqb, ne-eqb}
 use Rattle.digits.specs.Tests.{and-left, and-right, or-right, each-below, at-each}
 use Rattle.frames.specs.declared.Entry.{Entry}
 use Rattle.frames.specs.Limits.{boxes, masks, log-limit}
@@ -178,14 +179,23 @@ good-ordered s o g r l =
 
 -- ---- a box that wins
 
--- It leads, and where there is room the blank is behind its log: what holds of both holds of it.
-pub winner-ends : (P : State → Type 0) (s : State) → P (leading s) → (last-index s < log-limit → P (ordered (leading s) blank)) → P (winner s)
+-- With a full log it leads, and nothing is added;
+pub winner-full : (s : State) → log-limit ≤ last-index s → winner s ≡ leading s
 unfolding winner with-blank is-full leading
-winner-ends P s none room = go (leb log-limit (last-index s)) refl
+winner-full s l = rw (le-leb log-limit (last-index s) l)
+
+-- otherwise its blank is.
+pub winner-room : (s : State) → last-index s < log-limit → winner s ≡ ordered (leading s) blank
+unfolding winner with-blank is-full leading
+winner-room s l = rw (lt-leb log-limit (last-index s) l)
+
+-- So what holds of both holds of it.
+pub winner-ends : (P : State → Type 0) (s : State) → P (leading s) → (last-index s < log-limit → P (ordered (leading s) blank)) → P (winner s)
+winner-ends P s none room = go (decLe log-limit (last-index s))
   where
-    go : (b : Bool) → leb log-limit (last-index s) ≡ b → P (cond b (leading s) (ordered (leading s) blank))
-    go true e = none
-    go false e = room (leb-false _ _ e)
+    go : Dec (log-limit ≤ last-index s) → P (winner s)
+    go (yes l) = rw (winner-full s l) none
+    go (no n) = rw (winner-room s (omega arith)) (room (omega arith))
 
 -- It leads.
 pub winner-leads : (s : State) → winner s .role ≡ leader

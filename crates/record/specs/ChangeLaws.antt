@@ -5,12 +5,10 @@ use mathlib.Core.Path.{_≡_, refl, sym, ap, _∙_}
 use mathlib.Core.Bool.{Bool, true, cond, _&&_}
 use mathlib.Core.List.{List, [], _∷_, _++_}
 use lib.Dec.{eqb, ltb, leb}
-use lib.ListN.{length, length-append, getD, List·getD-append}
-use lib.Seq.{getD-append-seam}
+use lib.ListN.{length, length-append}
 use Rattle.frames.specs.declared.Entry.{Entry}
 use Rattle.record.specs.declared.Record.{Record}
 use Rattle.frames.specs.Limits.{log-limit}
-use Rattle.frames.specs.Fields.{no-entry}
 use Rattle.raft.specs.Record.{State, leader, is-other, term-at}
 use Rattle.raft.specs.Majority.{bit, majority}
 use Rattle.raft.specs.Commit.{settled, settle, matches, matching, is-matched}
@@ -42,20 +40,6 @@ pub largest-low-last : (b : Record) (log : List Entry) → Ranged (with-entries 
 largest-low-last b log r found e = omega (arith, largest-low (with-entries b log) r)
 
 -- ---- a log with one entry more
-
--- the older entries keep their terms
-pub term-front : (log : List Entry) (e : Entry) (i : ℕ) → i ≤ length log → term-at (log ++ (e ∷ [])) i ≡ term-at log i
-unfolding term-at
-term-front log e zero h = refl
-term-front log e (suc i) h = ap (λ (x : Entry). x .term) (List·getD-append log (e ∷ []) no-entry i h)
-
--- and the new one has its own
-pub term-new : (log : List Entry) (e : Entry) (i : ℕ) → i ≡ length log + 1 → term-at (log ++ (e ∷ [])) i ≡ e .term
-unfolding term-at
-term-new log e zero h = absurd (omega arith)
-term-new log e (suc i) h =
-    let last : i ≡ length log = omega arith in
-    ap (λ (k : ℕ). getD (log ++ (e ∷ [])) k no-entry .term) last ∙ ap (λ (x : Entry). x .term) (getD-append-seam log e [] no-entry)
 
 module _ (b : Record) (terms orders : List ℕ) (o : ℕ) where
   -- the log that a leader has behind an order

@@ -4,7 +4,7 @@ use native.Mathlib.Omega.{arith}
 use mathlib.Core.Path.{sym, _∙_}
 use Rattle.raft.specs.LentLaws.{length-entries-of}
 use Rattle.record.specs.Calls.{entries-of}
-use Rattle.record.specs.ChangeLaws.{term-front, term-new}
+use Rattle.raft.specs.CommitLaws.{term-front, term-new}
 use Rattle.leader.proofs.commit.term_after.Statement.{statement}
 use Rattle.leader.proofs.commit.term_after.Tie as tie
 
