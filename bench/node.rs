@@ -5,10 +5,10 @@ use std::hint::black_box;
 use std::time::{Duration, Instant};
 
 use support::measure::{self, spread};
-use support::numbers::{Numbers, Orders, Terms, LAST, MATCH, ME, NEXT, NUMBERS, TERM};
+use support::numbers::{Numbers, Orders, Terms, LAST, MATCH, ME, NEXT, NUMBERS, TERM, VOTES};
 use support::sides::{Side, OURS, TWIN};
 use twin::flat_record::to_flat;
-use twin::record::{Node, FOLLOWER, LEADER};
+use twin::record::{Node, CANDIDATE, FOLLOWER, LEADER};
 
 const JOURNAL: usize = 128;
 const ROOM: usize = 400;
@@ -124,6 +124,15 @@ impl Input {
         self.frame(4, term, "000000".into())
     }
 
+    /// The yes that makes four of seven, from the box next to this one: it has its own
+    /// and those of the two before it.
+    fn vote_yes(mut self) -> Input {
+        let (term, me) = (self.record[TERM], self.record[ME]);
+        let bit = |ahead: u64| 1 << ((me - 1 + ahead) % 7);
+        self.record[VOTES] = bit(0) | bit(5) | bit(6);
+        self.frame(2, term, "01".into())
+    }
+
     /// From a box with the same log that stands in the next term.
     fn vote_request(self) -> Input {
         let (term, (last, last_term)) = (self.record[TERM] + 1, self.last());
@@ -135,8 +144,8 @@ fn timeout(side: &Side, input: &mut Input) -> u8 {
     input.numbers = input.record;
     (side.timeout)(
         &mut input.numbers,
-        &input.terms,
-        &input.orders,
+        &mut input.terms,
+        &mut input.orders,
         &mut input.journal,
         &mut input.room,
         &mut input.sizes,
@@ -250,10 +259,13 @@ fn main() {
     let yes = inputs(LEADER, Input::append_yes);
     let no = inputs(LEADER, Input::append_no);
     let vote_request = inputs(FOLLOWER, Input::vote_request);
+    let wins = inputs(CANDIDATE, Input::vote_yes);
     measure("receive_append0", append0, [0, 23], receive);
     measure("receive_append1", append1, [47, 23], receive);
     measure("receive_append4", append4, [119, 23], receive);
     measure("receive_append_yes_seven", yes, [0, 0], receive);
     measure("receive_append_no_seven", no, [0, 131], receive);
     measure("receive_vote_request", vote_request, [23, 19], receive);
+    // The blank's line, and the first appends.
+    measure("receive_vote_wins_seven", wins, [47, 6 * 59], receive);
 }

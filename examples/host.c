@@ -54,12 +54,14 @@ static int store_and_send(void) {
     return fwrite(messages, 1, sizes[1], stdout) == sizes[1];
 }
 
-/* The plant gets each entry that is handed out, in order and once. */
+/* The plant gets each order that is handed out, in order and once. A leader's blank has an index too, but is nobody's
+ * order, and is passed over. */
 static void hand_out(void) {
     static uint64_t given;
     uint64_t count = 0;
     for (box_handed_out(box, terms, orders, &count); given < count; given++) {
         uint8_t order[8];
+        if (orders[given] == ORDER_BLANK) continue;
         order_to_bytes(orders[given], order);
         for (int i = 0; i < 8; i++) fprintf(stderr, i < 7 ? "%02x" : "%02x\n", order[i]);
     }

@@ -33,7 +33,7 @@ enum {
     MESSAGES_BYTES = 786 /* all messages of an event */
 };
 
-/* Answers. Checked in the order 12, 1, 2, 3, 4, 9, 6, 7, 8, 5; on opening 11, 10. */
+/* Answers. Checked in the order 12, 1, 2, 3, 13, 4, 9, 6, 7, 8, 5; on opening 11, 10. */
 enum {
     ANSWER_DONE = 0,
     ANSWER_NO_FRAME = 1,    /* the bytes, or the numbers to be written, are not one frame */
@@ -47,7 +47,8 @@ enum {
     ANSWER_LAST_TERM = 9,   /* a timeout in the last term */
     ANSWER_BAD_LINE = 10,   /* opening: a whole line after the head breaks a rule */
     ANSWER_NO_HEAD = 11,    /* opening: no whole line, or the first is no proper head */
-    ANSWER_BAD_RECORD = 12  /* starting: bad box or mask; otherwise: the numbers break a rule of the record */
+    ANSWER_BAD_RECORD = 12, /* starting: bad box or mask; otherwise: the numbers break a rule of the record */
+    ANSWER_BLANK = 13       /* an order of eight zeros, and the box leads: no client may send the blank */
 };
 
 /* A box is 22 numbers and its log: entry i at terms[i - 1] and orders[i - 1], the same two arrays at every call.
@@ -76,17 +77,16 @@ uint64_t box_start(uint8_t me, uint8_t mask, uint64_t box[BOX_NUMBERS], uint8_t 
  * first sizes[0] bytes of `journal` (0: there is none), the messages are the first sizes[1] bytes of `room`, one
  * a line. What is behind them stays as it was. Any other answer: nothing is written. */
 
-/* An election timeout: 0, 12, 9 or 5. */
-uint8_t box_timeout(uint64_t box[BOX_NUMBERS], const uint32_t terms[LOG_LENGTH],
-                    const uint64_t orders[LOG_LENGTH], uint8_t *journal, size_t journal_bytes, uint8_t *room,
-                    size_t room_bytes, uint64_t sizes[2]);
+/* An election timeout: 0, 12, 9 or 5. A box that is alone leads by it and adds its blank. */
+uint8_t box_timeout(uint64_t box[BOX_NUMBERS], uint32_t terms[LOG_LENGTH], uint64_t orders[LOG_LENGTH],
+                    uint8_t *journal, size_t journal_bytes, uint8_t *room, size_t room_bytes, uint64_t sizes[2]);
 
 /* A prompt, which has a leader send its appends: 0, 12, 3 or 5. */
 uint8_t box_prompt(uint64_t box[BOX_NUMBERS], const uint32_t terms[LOG_LENGTH],
                    const uint64_t orders[LOG_LENGTH], uint8_t *journal, size_t journal_bytes, uint8_t *room,
                    size_t room_bytes, uint64_t sizes[2]);
 
-/* An order, which order_from_bytes makes of its 8 bytes: 0, 12, 3, 4 or 5. */
+/* An order, which order_from_bytes makes of its 8 bytes: 0, 12, 3, 13, 4 or 5. */
 uint8_t box_order(uint64_t order, uint64_t box[BOX_NUMBERS], uint32_t terms[LOG_LENGTH],
                   uint64_t orders[LOG_LENGTH], uint8_t *journal, size_t journal_bytes, uint8_t *room,
                   size_t room_bytes, uint64_t sizes[2]);
@@ -104,6 +104,10 @@ uint8_t box_handed_out(const uint64_t box[BOX_NUMBERS], const uint32_t terms[LOG
  * is the way there and back. (8 bytes copied into a uint64_t are another order on another chip.) */
 uint64_t order_from_bytes(const uint8_t bytes[8]);
 void order_to_bytes(uint64_t order, uint8_t bytes[8]);
+
+/* A box that wins adds an entry of this order, eight zero bytes, unless its log is full. It is handed out like any
+ * entry; no client sent it, and a host passes over it. */
+enum { ORDER_BLANK = 0 };
 
 /* Opens the whole journal of box `me`. 0: the numbers and the log are stored, and the next line is written at byte
  * sizes[0]. 10: sizes[1] is the number of the first line that breaks a rule, the head being 1. 11: no journal of

@@ -1,5 +1,6 @@
 //! 01's 'Readings from the bench' of a box, run on the proved library. Where 01
-//! gives bytes, these are expected; else what its words and its table make.
+//! gives bytes, these are expected; else what its words and its table make, and
+//! those of T-01.
 
 use support::library;
 use support::numbers::{Numbers, Orders, Sizes, Terms};
@@ -47,8 +48,8 @@ impl Bench {
     fn timeout(&mut self) -> u8 {
         library::timeout(
             &mut self.numbers,
-            &self.terms,
-            &self.orders,
+            &mut self.terms,
+            &mut self.orders,
             &mut self.journal,
             &mut self.room,
             &mut self.sizes,
@@ -144,28 +145,160 @@ fn elected() -> Bench {
 fn box_2_says_yes() {
     let bench = elected();
     assert_eq!(bench.numbers[ROLE], LEADER);
+    // The blank is stored, and the first appends carry it.
+    let line = "01 10 01 00000001 01 0000 01 00000001 0000000000000000";
     let appends = [
-        "01 03 01 02 00000001 0000 00000000 0000 00",
-        "01 03 01 03 00000001 0000 00000000 0000 00",
+        "01 03 01 02 00000001 0000 00000000 0000 01 00000001 0000000000000000",
+        "01 03 01 03 00000001 0000 00000000 0000 01 00000001 0000000000000000",
     ];
-    assert_eq!(bench.written(), writes(&[], &appends));
+    assert_eq!(bench.written(), writes(&[line], &appends));
+    assert_eq!((bench.numbers[LAST], bench.numbers[COMMIT]), (1, 0));
+    assert_eq!(
+        bench.numbers[NEXT..],
+        [[0, 1, 1, 0, 0, 0, 0], [0; 7]].concat()
+    );
 }
 
 #[test]
 fn yes_from_2_to_index_1() {
     let mut bench = elected();
     assert_eq!(bench.order(0xfedcba9876543210), 0);
-    let appends = [
-        "01 03 01 02 00000001 0000 00000000 0000 01 00000001 fedcba9876543210",
-        "01 03 01 03 00000001 0000 00000000 0000 01 00000001 fedcba9876543210",
-    ];
-    let line = "01 10 01 00000001 01 0000 01 00000001 fedcba9876543210";
-    assert_eq!(bench.written(), writes(&[line], &appends));
+    let entries = "00000001 0000000000000000 00000001 fedcba9876543210";
+    let append = |to| format!("01 03 01 {to} 00000001 0000 00000000 0000 02 {entries}");
+    let line = "01 10 01 00000001 01 0001 01 00000001 fedcba9876543210";
+    assert_eq!(
+        bench.written(),
+        writes(&[line], &[&append("02"), &append("03")])
+    );
     assert_eq!(bench.handed_out(), (0, 0));
 
+    // The blank is committed, and box 2 gets the order again.
     assert_eq!(bench.receive("0104020100000001010001"), 0);
-    assert_eq!(bench.written(), writes(&[], &[]));
+    let order = "01 03 01 02 00000001 0001 00000001 0001 01 00000001 fedcba9876543210";
+    assert_eq!(bench.written(), writes(&[], &[order]));
     assert_eq!(bench.handed_out(), (0, 1));
+    assert_eq!(bench.receive("0104020100000001010002"), 0);
+    assert_eq!(bench.written(), writes(&[], &[]));
+    assert_eq!(bench.handed_out(), (0, 2));
+}
+
+/// Box 1 of 07 in term 5, one yes away from leading, with older entries.
+fn candidate(length: usize) -> Bench {
+    let mut bench = Bench::with_log(0x07, 4, &vec![3; length]);
+    bench.orders = [u64::MAX; 256];
+    assert_eq!(bench.timeout(), 0);
+    bench
+}
+
+#[test]
+fn a_log_of_255_takes_the_blank() {
+    let mut bench = candidate(255);
+    assert_eq!(bench.receive("01 02 02 01 00000005 01"), 0);
+    let blank = "00000005 0000000000000000";
+    let line = format!("01 10 01 00000005 01 00ff 01 {blank}");
+    let append = |to| format!("01 03 01 {to} 00000005 00ff 00000003 0000 01 {blank}");
+    assert_eq!(
+        bench.written(),
+        writes(&[&line], &[&append("02"), &append("03")])
+    );
+    assert_eq!(
+        (bench.log()[254..].to_vec(), bench.numbers[NEXT + 1]),
+        (vec![3, 5], 256)
+    );
+    assert_eq!(bench.orders[254..], [u64::MAX, 0]);
+    assert_eq!(bench.order(7), 4);
+}
+
+#[test]
+fn a_log_of_256_takes_no_blank() {
+    let mut bench = candidate(256);
+    let log = (bench.terms, bench.orders);
+    assert_eq!(bench.receive("01 02 02 01 00000005 01"), 0);
+    let append = |to| format!("01 03 01 {to} 00000005 0100 00000003 0000 00");
+    assert_eq!(
+        bench.written(),
+        writes(&[], &[&append("02"), &append("03")])
+    );
+    assert_eq!(
+        (bench.numbers[ROLE], bench.numbers[NEXT + 1]),
+        (LEADER, 257)
+    );
+    assert_eq!((bench.terms, bench.orders), log);
+    assert_eq!((bench.order(0), bench.order(7)), (13, 4));
+}
+
+/// One line has term, vote and blank; what is older is handed out with it.
+#[test]
+fn one_member_commits_its_blank_at_once() {
+    for (length, entry, handed_out) in [(0, 1, 1), (2, 1, 3), (255, 1, 256), (256, 0, 0)] {
+        let mut bench = Bench::with_log(0x01, 4, &vec![3; length]);
+        bench.orders = [u64::MAX; 256];
+        assert_eq!(bench.timeout(), 0);
+        let blank = ["", "00000005 0000000000000000"][entry];
+        let line = format!("01 10 01 00000005 01 {length:04x} 0{entry} {blank}");
+        assert_eq!(bench.written(), writes(&[&line], &[]));
+        assert_eq!(bench.handed_out(), (0, handed_out));
+        assert_eq!(bench.log()[length..], [5][..entry]);
+        assert_eq!(bench.orders[length..][..entry], [0][..entry]);
+    }
+}
+
+/// Nothing is touched, the lent log neither.
+#[test]
+fn winning_without_the_room_for_it_is_5() {
+    let mut bench = candidate(2);
+    let before = bench.clone();
+    let yes = lines(&["01 02 02 01 00000005 01"]);
+    for (journal, room) in [(46, 118), (47, 117), (0, 118), (47, 0)] {
+        let answer = library::receive(
+            yes.as_bytes(),
+            &mut bench.numbers,
+            &mut bench.terms,
+            &mut bench.orders,
+            &mut bench.journal[..journal],
+            &mut bench.room[..room],
+            &mut bench.sizes,
+        );
+        assert_eq!(answer, 5);
+        assert!(bench == before);
+    }
+    assert_eq!(bench.receive(&yes[..18]), 0);
+    assert_eq!(bench.sizes, [47, 118]);
+}
+
+/// Checked after 3 and before 4.
+#[test]
+fn an_order_of_zeros_is_13_at_a_leader() {
+    let mut bench = BENCH;
+    bench.start(1, 0x07);
+    assert_eq!(bench.order(0), 3);
+    assert_eq!(bench.timeout(), 0);
+    assert_eq!(bench.order(0), 3);
+    let mut bench = elected();
+    let before = bench.clone();
+    assert_eq!(bench.order(0), 13);
+    assert!(bench == before);
+    for order in [1, 1 << 56, 1 << 63] {
+        assert_eq!(bench.order(order), 0);
+    }
+}
+
+/// In frames zeros are an order like another.
+#[test]
+fn an_append_with_zeros_is_taken() {
+    let mut bench = follower(1);
+    let entry = "00000004 0000000000000000";
+    let append = format!("01 03 02 01 00000004 0003 00000002 0004 01 {entry}");
+    assert_eq!(bench.receive(&append), 0);
+    let line = format!("01 10 01 00000004 00 0003 01 {entry}");
+    assert_eq!(
+        bench.written(),
+        writes(&[&line], &["01 04 01 02 00000004 01 0004"])
+    );
+    assert_eq!(
+        (bench.log(), bench.handed_out()),
+        (&[1, 1, 2, 4][..], (0, 4))
+    );
 }
 
 #[test]
@@ -315,7 +448,9 @@ fn a_log_of_255_takes_an_order_and_one_of_256_answers_4() {
     let mut bench = BENCH;
     bench.start(1, 0x01);
     assert_eq!(bench.timeout(), 0);
-    for order in 0..256 {
+    // The blank is the first entry.
+    for order in 1..=255 {
+        assert_eq!(bench.numbers[LAST], order);
         assert_eq!(bench.order(order), 0);
     }
     assert_eq!(bench.order(256), 4);
@@ -351,6 +486,6 @@ fn an_order_is_its_8_bytes_as_they_stand() {
     let mut bench = elected();
     let order = library::order_of(b"\x01\x23\x45\x67\x89\xab\xcd\xef");
     assert_eq!(bench.order(order), 0);
-    let line = "01 10 01 00000001 01 0000 01 00000001 01 23 45 67 89 ab cd ef";
+    let line = "01 10 01 00000001 01 0001 01 00000001 01 23 45 67 89 ab cd ef";
     assert_eq!(bench.written().0, lines(&[line]));
 }

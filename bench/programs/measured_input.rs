@@ -13,7 +13,7 @@ pub const ME: u8 = 3;
 pub const HEAD: &str = "0111037f\n";
 
 /// Entries that stay when the log is cut; they are committed.
-pub const STANDING: u16 = 8;
+const STANDING: u16 = 8;
 
 /// Kinds of lines: appends by the entries that they add.
 const APPENDS: [&str; 5] = ["append 0", "append 1", "append 2", "append 3", "append 4"];

@@ -3,7 +3,7 @@
 
 use twin::record::LEADER;
 
-use crate::measured_input::{self, Session, HEAD, ME, STANDING};
+use crate::measured_input::{self, Session, HEAD, ME};
 use crate::{check, order_in, run, written};
 
 /// Some kinds of lines take no more than the start of a program if they are few.
@@ -19,11 +19,12 @@ fn follower() -> Session {
     session
 }
 
-/// The same that leads: the others have all but the last four entries.
+/// The same that leads: the others have all but the last four entries, the blank and
+/// three orders.
 fn leader() -> Session {
     let mut session = follower();
     session.elect();
-    for _ in 0..4 {
+    for _ in 0..3 {
         session.order();
     }
     session
@@ -65,7 +66,8 @@ const KINDS: [Kind; 16] = [
     ("prompt", leader, |s| s.say("", "p")),
     ("election", follower, |s| {
         s.elect();
-        s.append("", s.term() + 1, STANDING, 0);
+        // Cuts the blank, and one more for the entry that it adds.
+        s.append("", s.term() + 1, s.last() - 2, 1);
     }),
     ("order", follower, |s| {
         if s.last() == 256 || s.running.node.role != LEADER {

@@ -16,11 +16,13 @@ use crate::{Expected, JournalComparison};
 
 /// More than any step writes.
 const LINE: usize = 119;
+/// A line with one entry.
+const ONE_ENTRY: usize = 47;
 const ROOM: usize = 786;
 
 const MOST_FRAMES: usize = 32;
 
-pub const WANTED: [&str; 7] = [
+pub const WANTED: [&str; 10] = [
     "session_alone",
     "session_in_park",
     "session_restart",
@@ -28,6 +30,9 @@ pub const WANTED: [&str; 7] = [
     "session_cut",
     "session_full_log",
     "session_of_head_only",
+    "session_won_with_blank",
+    "session_won_at_once_with_blank",
+    "session_won_with_full_log",
 ];
 
 enum Event {
@@ -41,6 +46,8 @@ enum Event {
 struct Member {
     record: Record,
     journal: Journal,
+    /// How it has won, in the names above.
+    won: Vec<&'static str>,
 }
 
 impl Member {
@@ -50,11 +57,17 @@ impl Member {
         let answer = (TWIN.start)(me as u8, mask as u8, &mut record.numbers, &mut head);
         assert_eq!(answer, 256 * 9, "a box");
         let journal = Journal::new(&head, Stored::of(&record));
-        Member { record, journal }
+        Member {
+            record,
+            journal,
+            won: Vec::new(),
+        }
     }
 
     /// Takes the event and writes its line; gives what it sends.
     fn take(&mut self, event: Event) -> Vec<Vec<u8>> {
+        let led = self.record.get(ROLE) == LEADER;
+        let at_once = matches!(event, Event::Timeout);
         let Record {
             numbers,
             terms,
@@ -76,6 +89,13 @@ impl Member {
             return Vec::new();
         }
         let [written, sent] = sizes.map(|size| size as usize);
+        if !led && self.record.get(ROLE) == LEADER {
+            self.won.push(match (written, at_once) {
+                (ONE_ENTRY, true) => "session_won_at_once_with_blank",
+                (ONE_ENTRY, false) => "session_won_with_blank",
+                _ => "session_won_with_full_log",
+            });
+        }
         if written > 0 {
             let stored = Stored::of(&self.record);
             self.journal.push(&line[..written], stored);
@@ -225,6 +245,9 @@ impl JournalComparison {
             (member.record.get(LAST) == 256, "session_full_log"),
             (lengths.len() == 0, "session_of_head_only"),
         ]);
+        for name in &member.won {
+            self.counts.add(name);
+        }
         self.all_about(&member.journal, at_every_byte)
     }
 }

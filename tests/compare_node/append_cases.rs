@@ -5,7 +5,7 @@ use support::received_frames::Fields;
 
 use crate::cases_met::{entries_of, CasesMet};
 
-pub const WANTED: [&str; 40] = [
+pub const WANTED: [&str; 42] = [
     // Appends.
     "candidate_steps_down_with_yes",
     "candidate_steps_down_with_no",
@@ -19,6 +19,8 @@ pub const WANTED: [&str; 40] = [
     "all_held_with_other_order",
     "held_then_added",
     "filled_the_log",
+    "zeros_added",
+    "zeros_taken_for_another_order",
     "cut_at_first_entry",
     "cut_after_held_entries",
     "cut_right_after_commit",
@@ -75,6 +77,9 @@ impl CasesMet<'_> {
     fn entries(&mut self, f: &Fields) {
         let (last, held) = (self.before.get(LAST), self.held(f));
         let added = f.count() - held;
+        let is_blank = |(_, order): &(u64, u64)| *order == 0;
+        let zeros = f.entries[held as usize..].iter().any(is_blank);
+        self.counts.add_each(&[(zeros, "zeros_added")]);
         if f.count() == 0 {
             let full = f.index == 256;
             self.counts
@@ -95,13 +100,15 @@ impl CasesMet<'_> {
 
     fn all_held(&mut self, f: &Fields) {
         let orders = &self.before.orders[f.index as usize..];
-        let mut pairs = f.entries.iter().zip(orders);
-        let other_order = pairs.any(|((_, order), held)| order != held);
+        let pairs = || f.entries.iter().zip(orders);
+        let other_order = pairs().any(|((_, order), held)| order != held);
+        let zeros = pairs().any(|((_, order), held)| *order == 0 && *held != 0);
         let old = f.end() < self.before.get(LAST);
         self.counts.add_each(&[
             (true, "all_held"),
             (old, "all_held_old_append"),
             (other_order, "all_held_with_other_order"),
+            (zeros, "zeros_taken_for_another_order"),
         ]);
     }
 

@@ -3,7 +3,7 @@
 //! own decisions.
 
 use support::counts::{Counts, Name};
-use support::numbers::{CANDIDATE, COMMIT, LAST, LEADER, MATCH, ME, MEMBERS, ROLE, TERM};
+use support::numbers::{CANDIDATE, COMMIT, FOLLOWER, LAST, LEADER, MATCH, ME, MEMBERS, ROLE, TERM};
 use support::received_frames::{Fields, APPEND, APPEND_ANSWER, VOTE_ANSWER, VOTE_REQUEST};
 use support::records::{bit, boxes, Record, LAST_TERM};
 
@@ -25,12 +25,25 @@ const HIGHER: [&str; 4] = [
 ];
 
 /// What a run has to reach: a case that no step reached was not compared.
-const WANTED: [&str; 29] = [
+const WANTED: [&str; 42] = [
     // Without a message.
     "leader_nothing",
     "leader_nothing_in_last_term",
-    "won_at_once",
+    "won_at_once_with_blank",
+    "won_at_once_with_blank_in_empty_log",
+    "won_at_once_with_blank_over_older_entries",
+    "won_at_once_with_blank_at_256",
+    "won_at_once_with_full_log",
     "3_with_full_log",
+    "3_for_zeros_at_follower",
+    "3_for_zeros_at_candidate",
+    "3_for_zeros_with_full_log",
+    "12_for_zeros",
+    "13",
+    "13_alone",
+    "13_with_full_log",
+    "13_without_entry_of_its_term",
+    "one_bit_ordered",
     "commit_moved",
     "commit_moved_alone",
     "commit_not_moved",
@@ -98,8 +111,11 @@ impl CasesMet<'_> {
         match (self.taken.event, self.taken.refusal()) {
             (Event::Timeout, 0) => self.timeout(),
             (Event::Timeout, 9) => self.counts.add_of("9_in_role", before(ROLE)),
+            (Event::Order(0), refusal) => self.zeros(refusal),
             (Event::Order(_), 3) if before(LAST) == 256 => self.counts.add("3_with_full_log"),
-            (Event::Order(_), 0) => {
+            (Event::Order(order), 0) => {
+                self.counts
+                    .add_each(&[(order.count_ones() == 1, "one_bit_ordered")]);
                 self.appends("order_appends");
                 self.order_commit();
             }
@@ -128,10 +144,52 @@ impl CasesMet<'_> {
                 self.counts.add("leader_nothing_in_last_term");
             }
         } else if self.after.get(ROLE) == LEADER {
-            self.counts.add("won_at_once");
+            self.won_at_once();
         } else {
             let requests = self.taken.messages().count();
             self.counts.add_of("vote_requests", requests as u64);
+        }
+    }
+
+    fn won_at_once(&mut self) {
+        let (last, commit) = (self.before.get(LAST), self.before.get(COMMIT));
+        let blank = last < 256;
+        self.counts.add_each(&[
+            (blank, "won_at_once_with_blank"),
+            (last == 0, "won_at_once_with_blank_in_empty_log"),
+            (
+                blank && commit < last,
+                "won_at_once_with_blank_over_older_entries",
+            ),
+            (last == 255, "won_at_once_with_blank_at_256"),
+            (!blank, "won_at_once_with_full_log"),
+        ]);
+    }
+
+    /// An order of eight zeros, which no box takes.
+    fn zeros(&mut self, refusal: u8) {
+        let before = |place| self.before.get(place);
+        let full = before(LAST) == 256;
+        self.counts.add_each(&[
+            (
+                refusal == 3 && before(ROLE) == FOLLOWER,
+                "3_for_zeros_at_follower",
+            ),
+            (
+                refusal == 3 && before(ROLE) == CANDIDATE,
+                "3_for_zeros_at_candidate",
+            ),
+            (refusal == 3 && full, "3_for_zeros_with_full_log"),
+            (refusal == 12, "12_for_zeros"),
+        ]);
+        if refusal == 13 {
+            let own = self.before.last_term() == before(TERM);
+            self.counts.add_each(&[
+                (true, "13"),
+                (self.before.others() == 0, "13_alone"),
+                (full, "13_with_full_log"),
+                (!own, "13_without_entry_of_its_term"),
+            ]);
         }
     }
 

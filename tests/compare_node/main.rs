@@ -154,7 +154,7 @@ fn wanted() -> Vec<Name> {
         ("start", &[0, 5, 12][..]),
         ("timeout", &[0, 5, 9, 12]),
         ("prompt", &[0, 3, 5, 12]),
-        ("order", &[0, 3, 4, 5, 12]),
+        ("order", &[0, 3, 4, 5, 12, 13]),
         ("receive", &[0, 1, 2, 5, 6, 7, 8, 12]),
         ("handed_out", &[0, 12]),
         ("5_of_kind", &[1, 2, 3, 4]),
@@ -166,8 +166,7 @@ fn wanted() -> Vec<Name> {
     names.extend((0..NUMBERS).map(|place| ("too_large", Some(place as u64))));
     names.extend(DAMAGES.map(|(name, _)| (name, None)));
     let others = ["empty", "head", "random_bytes", "joined", "session"];
-    let short = ["5_by_journal", "5_by_room", "5_by_both"];
-    let plain = others.iter().chain(&short).chain(&park::WANTED);
+    let plain = others.iter().chain(&steps::SHORT).chain(&park::WANTED);
     names.extend(plain.map(|name| (*name, None)));
     names.extend(cases_met::wanted());
     names

@@ -30,7 +30,7 @@ impl Park {
 }
 
 /// What a park has to see.
-pub const WANTED: [&str; 7] = [
+pub const WANTED: [&str; 8] = [
     "park",
     "park_won",
     "park_cut",
@@ -38,6 +38,7 @@ pub const WANTED: [&str; 7] = [
     "park_restart",
     "park_4",
     "park_9",
+    "park_13",
 ];
 
 /// An entry was cut, which another took the place of.
@@ -157,6 +158,7 @@ impl NodeComparison {
             (committed && after.get(ROLE) == FOLLOWER, "park_committed"),
             (step.refusal == 4, "park_4"),
             (step.refusal == 9, "park_9"),
+            (step.refusal == 13, "park_13"),
         ]);
         park.boxes[at] = after;
         park.frames.send(step.messages, &mut self.r);

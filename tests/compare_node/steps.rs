@@ -1,8 +1,9 @@
 //! A step of both sides: one event on one record, taken with many rooms, and judged
 //! by what is known of the record.
 
+use support::numbers::{LAST, LEADER, NEXT, ROLE, TERM};
 use support::received_frames::Fields;
-use support::records::Record;
+use support::records::{boxes, Record};
 use twin::flat_record;
 
 use crate::cases_met::CasesMet;
@@ -31,16 +32,73 @@ fn is_good(record: &Record) -> bool {
     node.is_some_and(|node| node.is_good(&record.terms))
 }
 
+/// The names of what a room that is too short does.
+pub const SHORT: [&str; 7] = [
+    "5_by_journal",
+    "5_by_room",
+    "5_by_both",
+    "5_by_journal_at_winning",
+    "5_by_room_at_winning",
+    "5_by_both_at_winning",
+    "5_by_journal_at_winning_at_once",
+];
+
+/// A good record's answer to an order, but for the room: 3, 13 and 4 in that order.
+fn order_refusal(record: &Record, order: u64) -> u8 {
+    match record.get(ROLE) {
+        LEADER if order == 0 => 13,
+        LEADER if record.get(LAST) == 256 => 4,
+        LEADER => 0,
+        _ => 3,
+    }
+}
+
+fn wins(before: &Record, after: &Record) -> bool {
+    before.get(ROLE) != LEADER && after.get(ROLE) == LEADER
+}
+
+/// A box that wins has the blank after all that it held, unless that was 256
+/// entries; the first append to each other is the one that carries it.
+fn won_rightly(before: &Record, after: &Record) -> bool {
+    let last = before.get(LAST) as usize;
+    let blank = match last {
+        256 => after.get(LAST) == 256,
+        _ => {
+            after.get(LAST) == last as u64 + 1
+                && u64::from(after.terms[last]) == after.get(TERM)
+                && after.orders[last] == 0
+        }
+    };
+    let mut others = boxes(after.others()).into_iter();
+    blank
+        && before.terms[..last] == after.terms[..last]
+        && before.orders[..last] == after.orders[..last]
+        && others.all(|number| after.get(NEXT + number as usize - 1) == last as u64 + 1)
+}
+
 /// What the two agree on may be wrong all the same.
-fn judge(taken: &StepByBoth, next: &Record, rules: Rules) -> Result<(), Box<Difference>> {
+fn judge(
+    taken: &StepByBoth,
+    before: &Record,
+    next: &Record,
+    rules: Rules,
+) -> Result<(), Box<Difference>> {
     let refusal = taken.refusal();
     let good = matches!(rules, Rules::Kept | Rules::InPark);
+    if let (Event::Order(order), true) = (taken.event, good) {
+        if refusal != order_refusal(before, order) {
+            return Err(taken.wrong("both, another refusal of an order than its rule's"));
+        }
+    }
     let wrong = match refusal {
+        0 if good && wins(before, next) && !won_rightly(before, next) => {
+            "both, a box that has won without its blank"
+        }
         5 => "both, 5 with room for all",
         12 if good => "both, 12 for a good record",
         6..=8 if rules == Rules::InPark => "both, an alarm in a park that keeps the rules",
         0 if good && !is_good(next) => "both, a bad record after a good one",
-        0..=11 if rules == Rules::Broken => "both, a bad record taken",
+        0..=11 | 13 if rules == Rules::Broken => "both, a bad record taken",
         _ => return Ok(()),
     };
     Err(taken.wrong(wrong))
@@ -62,7 +120,7 @@ impl NodeComparison {
         let lent = Lent::new(event, record, &mut self.r);
         let taken = StepByBoth::new(event, &lent, ROOMY)?;
         let next = taken.after.record();
-        judge(&taken, &next, rules)?;
+        judge(&taken, record, &next, rules)?;
         let refusal = taken.refusal();
         self.counts.add_of(event.name(), refusal.into());
         CasesMet {
@@ -105,6 +163,7 @@ impl NodeComparison {
     /// The step of this taken again, in rooms around what it has written.
     fn other_rooms(&mut self, roomy: &StepByBoth) -> Result<(), Box<Difference>> {
         let exact = roomy.written();
+        let wins = wins(&roomy.before.record(), &roomy.after.record());
         for rooms in self.rooms_around(exact) {
             let short_journal = rooms.journal < exact.journal;
             let short_room = rooms.messages < exact.messages;
@@ -120,12 +179,18 @@ impl NodeComparison {
             {
                 return Err(taken.wrong("both, another step in another room"));
             }
-            self.counts.add(match (short_journal, short_room) {
-                (true, true) => "5_by_both",
-                (true, false) => "5_by_journal",
-                (false, true) => "5_by_room",
+            let (name, at_winning) = match (short_journal, short_room) {
+                (true, true) => ("5_by_both", "5_by_both_at_winning"),
+                (true, false) => ("5_by_journal", "5_by_journal_at_winning"),
+                (false, true) => ("5_by_room", "5_by_room_at_winning"),
                 (false, false) => continue,
-            });
+            };
+            let at_once = matches!(taken.event, Event::Timeout);
+            self.counts.add_each(&[
+                (true, name),
+                (wins && !at_once, at_winning),
+                (wins && at_once, "5_by_journal_at_winning_at_once"),
+            ]);
             self.counts.add_of(taken.event.name(), 5);
             if let Event::Receive(text) = taken.event {
                 let kind = Fields::of(text).map_or(0, |f| f.kind);

@@ -1,12 +1,14 @@
 //! The cases of vote requests and vote answers.
 
-use support::numbers::{CANDIDATE, FOLLOWER, LAST, LEADER, MEMBERS, ROLE, TERM, VOTE, VOTES};
+use support::numbers::{
+    CANDIDATE, COMMIT, FOLLOWER, LAST, LEADER, MEMBERS, ROLE, TERM, VOTE, VOTES,
+};
 use support::received_frames::Fields;
 use support::records::bit;
 
 use crate::cases_met::CasesMet;
 
-pub const WANTED: [&str; 20] = [
+pub const WANTED: [&str; 26] = [
     // Vote requests.
     "vote_given",
     "vote_given_twice",
@@ -26,6 +28,12 @@ pub const WANTED: [&str; 20] = [
     "vote_counted_twice",
     "vote_counted_to_half",
     "won_with_majority_before",
+    "won_with_blank",
+    "won_with_blank_in_empty_log",
+    "won_with_blank_over_older_entries",
+    "won_with_blank_over_entry_of_its_term",
+    "won_with_blank_at_256",
+    "won_with_full_log",
     "vote_no_at_candidate",
     "vote_answer_at_follower",
     "vote_answer_at_leader",
@@ -74,9 +82,30 @@ impl CasesMet<'_> {
         ]);
     }
 
+    /// What the box that wins had in its log.
+    fn won(&mut self) {
+        let (last, commit) = (self.before.get(LAST), self.before.get(COMMIT));
+        let blank = last < 256;
+        let own = self.before.last_term() == self.before.get(TERM);
+        self.counts.add_each(&[
+            (blank, "won_with_blank"),
+            (last == 0, "won_with_blank_in_empty_log"),
+            (
+                blank && !own && commit < last,
+                "won_with_blank_over_older_entries",
+            ),
+            (blank && own, "won_with_blank_over_entry_of_its_term"),
+            (last == 255, "won_with_blank_at_256"),
+            (!blank, "won_with_full_log"),
+        ]);
+    }
+
     pub fn vote_answer(&mut self, f: &Fields) {
         let members = self.before.get(MEMBERS).count_ones();
         let votes = self.before.get(VOTES);
+        if self.after.get(ROLE) == LEADER && self.before.get(ROLE) == CANDIDATE {
+            self.won();
+        }
         let name = match self.before.get(ROLE) {
             LEADER => "vote_answer_at_leader",
             CANDIDATE if f.yes == 0 => "vote_no_at_candidate",

@@ -16,12 +16,12 @@ pub struct Taken<'a> {
 }
 
 /// The refusals that a line after the head can get.
-const REFUSALS: [u64; 8] = [1, 2, 3, 4, 6, 7, 8, 9];
+const REFUSALS: [u64; 9] = [1, 2, 3, 4, 6, 7, 8, 9, 13];
 
 /// Six appends of four entries and the line of one entry.
 const LONGEST: usize = 6 * LONGEST_TEXT + 47;
 
-const WANTED: [&str; 38] = [
+const WANTED: [&str; 45] = [
     "said_nothing",
     "said_line",
     "said_messages",
@@ -31,9 +31,11 @@ const WANTED: [&str; 38] = [
     "stands",
     "stands_again",
     "stands_when_voted",
-    "won_alone",
+    "won_alone_with_blank",
     "timeout_of_leader",
-    "election_won",
+    "election_won_with_blank",
+    "election_won_over_older_entries",
+    "election_won_with_full_log",
     "vote_counted",
     "vote_answer_no",
     "vote_answer_late",
@@ -48,6 +50,7 @@ const WANTED: [&str; 38] = [
     "append_refused",
     "append_empty",
     "append_adds",
+    "append_adds_zeros",
     "append_cuts",
     "append_old_cuts_nothing",
     "append_commits",
@@ -59,6 +62,10 @@ const WANTED: [&str; 38] = [
     "answer_late",
     "order_commits_alone",
     "order_255",
+    "zeros_at_follower",
+    "zeros_at_candidate",
+    "zeros_at_leader",
+    "zeros_with_full_log",
     "prompt_brings_up",
 ];
 
@@ -80,6 +87,9 @@ pub fn count(taken: &Taken, counts: &mut Counts) {
     if let [b'n', digits @ .., b'\n'] = taken.answer {
         let digits = std::str::from_utf8(digits).expect("digits");
         counts.add_of("n", digits.parse().expect("a number"));
+        if taken.line == b"o0000000000000000\n" {
+            zeros(&taken.before.node, counts);
+        }
         return;
     }
     let (before, after) = (&taken.before.node, &taken.after.node);
@@ -108,6 +118,16 @@ pub fn count(taken: &Taken, counts: &mut Counts) {
     }
 }
 
+fn zeros(before: &Node, counts: &mut Counts) {
+    let leads = before.role == LEADER;
+    counts.add_each(&[
+        (before.role == FOLLOWER, "zeros_at_follower"),
+        (before.role == CANDIDATE, "zeros_at_candidate"),
+        (leads, "zeros_at_leader"),
+        (leads && before.last == 256, "zeros_with_full_log"),
+    ]);
+}
+
 fn timeout(before: &Node, after: &Node, counts: &mut Counts) {
     let stands = after.role == CANDIDATE;
     counts.add_each(&[
@@ -117,7 +137,10 @@ fn timeout(before: &Node, after: &Node, counts: &mut Counts) {
             stands && ![0, after.me].contains(&before.vote),
             "stands_when_voted",
         ),
-        (before.role == FOLLOWER && after.role == LEADER, "won_alone"),
+        (
+            before.role == FOLLOWER && after.role == LEADER && after.last > before.last,
+            "won_alone_with_blank",
+        ),
         (before.role == LEADER, "timeout_of_leader"),
     ]);
 }
@@ -140,21 +163,27 @@ fn received(message: &Message, taken: &Taken, counts: &mut Counts) {
                 (term < before.term, "request_of_lower_term"),
             ]);
         }
-        Message::VoteAnswer { term, yes, .. } => counts.add_each(&[
-            (
-                after.role == LEADER && before.role == CANDIDATE,
-                "election_won",
-            ),
-            (
-                after.votes != before.votes && after.role == CANDIDATE,
-                "vote_counted",
-            ),
-            (
-                yes == 0 && before.role == CANDIDATE && !raised,
-                "vote_answer_no",
-            ),
-            (term < before.term, "vote_answer_late"),
-        ]),
+        Message::VoteAnswer { term, yes, .. } => {
+            let won = after.role == LEADER && before.role == CANDIDATE;
+            let blank = after.last > before.last;
+            counts.add_each(&[
+                (won && blank, "election_won_with_blank"),
+                (
+                    won && blank && before.commit < before.last,
+                    "election_won_over_older_entries",
+                ),
+                (won && !blank, "election_won_with_full_log"),
+                (
+                    after.votes != before.votes && after.role == CANDIDATE,
+                    "vote_counted",
+                ),
+                (
+                    yes == 0 && before.role == CANDIDATE && !raised,
+                    "vote_answer_no",
+                ),
+                (term < before.term, "vote_answer_late"),
+            ]);
+        }
         Message::Append {
             term,
             previous_index,
@@ -166,6 +195,8 @@ fn received(message: &Message, taken: &Taken, counts: &mut Counts) {
             let kept = common(taken.before, taken.after);
             let adds = usize::from(after.last) > kept;
             let cuts = usize::from(before.last) > kept;
+            let added = kept..usize::from(after.last);
+            let zeros = taken.after.orders[added].contains(&0);
             counts.add_each(&[
                 (
                     before.role == CANDIDATE && !raised && term == after.term,
@@ -175,6 +206,7 @@ fn received(message: &Message, taken: &Taken, counts: &mut Counts) {
                 (!yes && term == after.term, "append_refused"),
                 (yes && count == 0, "append_empty"),
                 (adds && !cuts, "append_adds"),
+                (zeros, "append_adds_zeros"),
                 (cuts, "append_cuts"),
                 (
                     yes && count > 0 && !adds && end < after.last,

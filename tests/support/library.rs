@@ -10,8 +10,8 @@ unsafe extern "C" {
     pub fn box_start(me: u8, mask: u8, numbers: *mut u64, room: *mut u8, room_len: usize) -> u64;
     pub fn box_timeout(
         numbers: *mut u64,
-        terms: *const u32,
-        orders: *const u64,
+        terms: *mut u32,
+        orders: *mut u64,
         journal: *mut u8,
         journal_len: usize,
         room: *mut u8,
@@ -92,8 +92,8 @@ pub fn start(me: u8, mask: u8, numbers: &mut Numbers, room: &mut [u8]) -> u64 {
 
 pub fn timeout(
     numbers: &mut Numbers,
-    terms: &Terms,
-    orders: &Orders,
+    terms: &mut Terms,
+    orders: &mut Orders,
     journal: &mut [u8],
     room: &mut [u8],
     sizes: &mut Sizes,
@@ -101,8 +101,8 @@ pub fn timeout(
     unsafe {
         box_timeout(
             numbers.as_mut_ptr(),
-            terms.as_ptr(),
-            orders.as_ptr(),
+            terms.as_mut_ptr(),
+            orders.as_mut_ptr(),
             journal.as_mut_ptr(),
             journal.len(),
             room.as_mut_ptr(),

@@ -16,12 +16,14 @@ pub struct Record {
     pub orders: [u64; 256],
 }
 
+/// Any 8 bytes; often all zeros, which are the blank's, or all but one bit of them.
 pub fn order(r: &mut Random) -> u64 {
-    match r.below(6) {
+    match r.below(7) {
         0 => 0,
         1 => u64::MAX,
         2 => 0xff << 56,
         3 => r.between(0, 256),
+        4 => 1 << r.between(0, 63),
         _ => r.next(),
     }
 }

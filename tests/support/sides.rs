@@ -6,8 +6,9 @@ use twin::flat_record;
 use crate::library;
 use crate::numbers::{Numbers, Orders, Sizes, Terms};
 
-/// A timeout or a prompt, which leave the log alone.
-type OverLog = fn(&mut Numbers, &Terms, &Orders, &mut [u8], &mut [u8], &mut Sizes) -> u8;
+type Timeout = fn(&mut Numbers, &mut Terms, &mut Orders, &mut [u8], &mut [u8], &mut Sizes) -> u8;
+/// Leaves the log alone.
+type Prompt = fn(&mut Numbers, &Terms, &Orders, &mut [u8], &mut [u8], &mut Sizes) -> u8;
 type Order = fn(u64, &mut Numbers, &mut Terms, &mut Orders, &mut [u8], &mut [u8], &mut Sizes) -> u8;
 type Receive =
     fn(&[u8], &mut Numbers, &mut Terms, &mut Orders, &mut [u8], &mut [u8], &mut Sizes) -> u8;
@@ -18,8 +19,8 @@ type Replay = fn(&[u8], &mut Numbers, &mut Terms, &mut Orders) -> u8;
 #[derive(Clone, Copy)]
 pub struct Side {
     pub start: fn(u8, u8, &mut Numbers, &mut [u8]) -> u64,
-    pub timeout: OverLog,
-    pub prompt: OverLog,
+    pub timeout: Timeout,
+    pub prompt: Prompt,
     pub order: Order,
     pub receive: Receive,
     pub handed_out: fn(&Numbers, &Terms, &Orders, &mut u64) -> u8,

@@ -6,14 +6,16 @@ use crate::frames::{self, APPEND_ANSWER_TEXT, VOTE_ANSWER_TEXT};
 use crate::journal::line_text;
 use crate::members::bit;
 use crate::message::{Entry, Message};
-use crate::record::{Node, Orders, Terms};
+use crate::record::{store, Node, Orders, Terms};
 use crate::refusals::{NOT_A_FRAME, NOT_FOR_THIS_BOX};
-use crate::step::Answer;
+use crate::step::{Answer, Step};
 
 /// What a message makes the box send: an answer, or appends to the boxes of a mask.
 enum Sent {
     Answer(Message),
     Appends(u8),
+    /// The box has won.
+    FirstAppends,
 }
 
 impl Node {
@@ -50,6 +52,9 @@ impl Node {
             node.follow();
         }
         let (sent, added) = node.deliver(&message, from, term < self.term, terms)?;
+        let wins = matches!(sent, Sent::FirstAppends);
+        let blank = if wins { node.win() } else { None };
+        let added = if wins { blank.as_slice() } else { added };
 
         // What is cut is always followed by something added.
         let changed = node.term != self.term || node.vote != self.vote || !added.is_empty();
@@ -58,12 +63,16 @@ impl Node {
             Sent::Answer(Message::VoteAnswer { .. }) => VOTE_ANSWER_TEXT,
             Sent::Answer(_) => APPEND_ANSWER_TEXT,
             Sent::Appends(to) => node.appends_length(to),
+            Sent::FirstAppends => node.appends_length(node.others()),
         };
         let step = node.fit(line, messages, journal, room)?;
         let kept = node.last - added.len() as u16;
-        for (place, entry) in (usize::from(kept)..).zip(added) {
-            terms[place] = entry.term;
-            orders[place] = u64::from_be_bytes(entry.order);
+        for (before, entry) in (kept..).zip(added) {
+            store(*entry, before, terms, orders);
+        }
+        // Lengths do not depend on commit, which needs the entry.
+        if wins {
+            node.settle(terms);
         }
         if changed {
             node.write_line(kept, terms, orders, journal);
@@ -73,8 +82,9 @@ impl Node {
                 frames::write(&answer, room).expect("a frame with room");
             }
             Sent::Appends(to) => node.write_appends(to, terms, orders, room),
+            Sent::FirstAppends => node.write_appends(node.others(), terms, orders, room),
         }
-        Ok(step)
+        Ok(Step { node, ..step })
     }
 
     /// The message by its kind: what is sent, and the entries to be added.
@@ -107,9 +117,10 @@ impl Node {
                 return Ok((Sent::Answer(self.append_answer(from, index)), added));
             }
             _ if lower => Sent::Appends(0),
-            Message::VoteAnswer { yes, .. } => {
-                Sent::Appends(self.answered_vote(from, yes == 1, terms))
-            }
+            Message::VoteAnswer { yes, .. } => match self.answered_vote(from, yes == 1) {
+                true => Sent::FirstAppends,
+                false => Sent::Appends(0),
+            },
             Message::AppendAnswer { yes, index, .. } => {
                 Sent::Appends(self.answered_append(from, yes == 1, index, terms)?)
             }

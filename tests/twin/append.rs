@@ -108,6 +108,22 @@ mod checks {
         assert_eq!((&*follower.line, follower.messages), ("", yes_to_2));
     }
 
+    /// A leader's blank, or whatever else it is.
+    #[test]
+    fn zeros_are_an_order_like_another() {
+        let mut follower = reading_follower(0);
+        let entries = "00000002 0000000000000000 00000004 0000000000000000";
+        let append = format!("01 03 02 01 00000004 0003 00000002 0005 02 {entries}");
+        assert_eq!(follower.receive(&lines(&[&append])), 0);
+        let line = format!("01 10 01 00000004 00 0003 02 {entries}");
+        assert_eq!(follower.line, lines(&[&line]));
+        assert_eq!(follower.messages, lines(&["01 04 01 02 00000004 01 0005"]));
+        assert_eq!(
+            (follower.log(), follower.node.commit),
+            (&[1, 1, 2, 2, 4][..], 5)
+        );
+    }
+
     #[test]
     fn a_candidate_that_hears_of_a_leader() {
         let mut candidate = CheckedBox::with_log(1, 0x07, 4, &[1, 1, 2]);

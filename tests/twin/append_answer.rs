@@ -46,16 +46,15 @@ mod checks {
         let mut leader = CheckedBox::with_log(1, 0x03, 3, &[1, 1, 2, 3]);
         assert_eq!(leader.timeout(), 0);
         assert_eq!(leader.receive(&lines(&["01 02 02 01 00000004 01"])), 0);
-        let at_end = "01 03 01 02 00000004 0004 00000003 0000 00";
-        assert_eq!(
-            (&*leader.line, leader.messages.clone()),
-            ("", lines(&[at_end]))
-        );
-        assert_eq!((leader.order(0), leader.order(0)), (0, 0));
+        let blank = "00000004 0000000000000000";
+        let at_end = "01 03 01 02 00000004 0004 00000003 0000 01".to_owned() + blank;
+        assert_eq!(leader.messages, lines(&[&at_end]));
+        assert_eq!(leader.order(7), 0);
 
         // Next goes back to 4 by three noes; an old yes moves nothing back.
-        let entries = ["00000003", "00000004", "00000004"].map(|t| t.to_owned() + &"0".repeat(16));
-        let from_4 = "01 03 01 02 00000004 0003 00000002 0000 03".to_owned() + &entries.concat();
+        let (older, ordered) = ("00000003 0000000000000000", "00000004 0000000000000007");
+        let from_4 = "01 03 01 02 00000004 0003 00000002 0000 03".to_owned()
+            + &[older, blank, ordered].concat();
         leader.node.next[1] = 7;
         for _ in 0..3 {
             assert_eq!(leader.receive(&lines(&["01 04 02 01 00000004 00 0000"])), 0);

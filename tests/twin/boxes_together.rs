@@ -1,6 +1,7 @@
 //! A check on several boxes of the twin that send each other what they say. Frames
 //! are lost, repeated and overtaken, and boxes lose power: no alarm, one leader a
-//! term, one history, and a journal that says what is stored.
+//! term, one history, a journal that says what is stored, and in the end no order that
+//! stays uncommitted.
 
 use std::collections::HashMap;
 
@@ -8,8 +9,8 @@ use support::random::Random;
 
 use crate::checked_box::CheckedBox;
 use crate::members::{bit, boxes, majority, place};
-use crate::record::{term_at, LEADER};
-use crate::refusals::{LOG_FULL, NOT_LEADER};
+use crate::record::{term_at, LEADER, LONGEST_LOG};
+use crate::refusals::{BLANK_ORDER, LOG_FULL, NOT_LEADER};
 
 /// Term and order.
 type Entry = (u32, u64);
@@ -58,8 +59,8 @@ impl Together {
         let at = self.r.below(self.boxes.len());
         let one = &mut self.boxes[at];
         let answer = match self.r.below(100) {
-            0..=2 => one.timeout(),
-            3..=12 => {
+            0 => one.timeout(),
+            1..=6 => {
                 let commit = one.node.commit;
                 let answer = one.order(order);
                 if answer == 0 {
@@ -67,7 +68,12 @@ impl Together {
                 }
                 answer
             }
-            13..=22 => one.prompt(),
+            7..=21 => one.prompt(),
+            22 => {
+                let leads = one.node.role == LEADER;
+                assert_eq!(one.order(0), if leads { BLANK_ORDER } else { NOT_LEADER });
+                return None;
+            }
             23 => {
                 one.node.follow();
                 one.node.commit = 0;
@@ -92,16 +98,56 @@ impl Together {
         if kind > 96 {
             return None;
         }
+        Some(self.receive(&frame))
+    }
+
+    /// The place of the box that the frame is for, which takes it.
+    fn receive(&mut self, frame: &str) -> usize {
         let to = frame.as_bytes()[7] - b'0';
         let at = self.boxes.iter().position(|one| one.node.me == to);
         let at = at.expect("a member");
         let one = &mut self.boxes[at];
         let (role, commit) = (one.node.role, one.node.commit);
-        assert_eq!(one.receive(&frame), 0);
-        if (role, one.node.role) == (LEADER, LEADER) {
+        let full = one.node.last == LONGEST_LOG;
+        assert_eq!(one.receive(frame), 0);
+        if one.node.role == LEADER {
             assert_eq!(one.node.commit, settled(one, commit));
         }
-        Some(at)
+        if role != LEADER && one.node.role == LEADER && !full {
+            let last = usize::from(one.node.last);
+            assert_eq!(
+                (one.log()[last - 1], one.orders[last - 1]),
+                (one.node.term, 0)
+            );
+        }
+        at
+    }
+
+    /// All power and links hold from now on, and no order comes: whoever has the
+    /// newest log wins and commits all of it.
+    fn calm_down(&mut self) {
+        self.frames.clear();
+        for _ in 0..2000 {
+            let newest = |at: &usize| {
+                (
+                    *self.boxes[*at].log().last().unwrap_or(&0),
+                    self.boxes[*at].node.last,
+                )
+            };
+            let at = (0..self.boxes.len()).max_by_key(newest).expect("a box");
+            let one = &mut self.boxes[at];
+            let leads = one.node.role == LEADER;
+            if leads && one.node.commit == one.node.last {
+                return;
+            }
+            assert_eq!(if leads { one.prompt() } else { one.timeout() }, 0);
+            self.stepped(at);
+            while let Some(frame) = self.frames.pop() {
+                let at = self.receive(&frame);
+                self.stepped(at);
+            }
+        }
+        panic!("older orders stay uncommitted");
     }
 
     /// What must hold after each step of the box there.
@@ -152,12 +198,13 @@ fn boxes_together() {
     for seed in 0..24 {
         let members = [0x07, 0x1f, 0x7f, 0x0f, 0x2a][seed as usize % 5];
         let mut together = Together::of(members, Random::seeded(seed));
-        for order in 0..6000 {
+        for order in 1..=6000 {
             if let Some(at) = together.event(order) {
                 together.stepped(at);
             }
         }
         let committed = together.history.len();
+        together.calm_down();
         assert!(committed > 20, "seed {seed}: {committed} committed");
     }
 }

@@ -2,7 +2,8 @@
 //! refusal or a short room may not touch is looked at every time.
 
 use crate::journal::HEAD_TEXT;
-use crate::record::{Node, Orders, Terms};
+use crate::members::{boxes, place};
+use crate::record::{Node, Orders, Terms, LEADER};
 use crate::refusals::NO_ROOM;
 use crate::start;
 use crate::step::Answer;
@@ -37,9 +38,15 @@ impl CheckedBox {
         checked
     }
 
+    /// Leading, with nothing of its own in the log: a record that somebody made.
     pub fn lead(mut self) -> CheckedBox {
-        self.node.vote = self.node.me;
-        self.node.win(&self.terms);
+        let node = &mut self.node;
+        node.role = LEADER;
+        node.vote = node.me;
+        node.votes = 0;
+        for number in boxes(node.others()) {
+            node.next[place(number)] = node.last + 1;
+        }
         self
     }
 

@@ -87,8 +87,8 @@ pub fn start(me: u8, mask: u8, numbers: &mut Numbers, room: &mut [u8]) -> u64 {
 
 pub fn timeout(
     numbers: &mut Numbers,
-    terms: &Terms,
-    orders: &Orders,
+    terms: &mut Terms,
+    orders: &mut Orders,
     journal: &mut [u8],
     room: &mut [u8],
     sizes: &mut [u64; 2],
@@ -194,7 +194,7 @@ mod checks {
 
     #[test]
     fn numbers_that_do_not_fit() {
-        let bench = CheckedBox::with_log(1, 0x7f, u32::MAX, &[7; 256]).lead();
+        let mut bench = CheckedBox::with_log(1, 0x7f, u32::MAX, &[7; 256]).lead();
         let numbers = to_flat(&bench.node);
         assert_eq!(from_flat(&numbers), Some(bench.node));
         for place in 0..NUMBERS {
@@ -203,7 +203,7 @@ mod checks {
             broken[place] |= 1 << width.get(place).unwrap_or(&16);
             let before = broken;
             let mut sizes = [3; 2];
-            let (terms, orders) = (&bench.terms, &bench.orders);
+            let (terms, orders) = (&mut bench.terms, &mut bench.orders);
             let answer = timeout(&mut broken, terms, orders, &mut [], &mut [], &mut sizes);
             assert_eq!((answer, broken, sizes), (BAD_RECORD, before, [3; 2]));
         }

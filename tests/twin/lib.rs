@@ -1,6 +1,7 @@
-//! The box of 01 a second time, in plain Rust and from 01's text alone: what the
-//! proved box is compared with and measured against. It stands on nothing but the
-//! standard library; its checks draw from `support`'s random numbers.
+//! The box of 01 a second time, in plain Rust, from the text of 01 and of the
+//! requests alone: what the proved box is compared with and measured against. It
+//! stands on nothing but the standard library; its checks draw from `support`'s
+//! random numbers.
 
 // The box's record, and when the box says no.
 pub mod members;

@@ -1,6 +1,7 @@
 //! The box's record, and every rule of it.
 
 use crate::members::{bit, is_member, is_membership, BOXES};
+use crate::message::Entry;
 use crate::refusals::BAD_RECORD;
 
 pub const FOLLOWER: u8 = 0;
@@ -52,6 +53,12 @@ pub(crate) fn term_at(terms: &Terms, index: u16) -> u32 {
         0 => 0,
         _ => terms[usize::from(index - 1)],
     }
+}
+
+/// The entry comes after so many others.
+pub(crate) fn store(entry: Entry, kept: u16, terms: &mut Terms, orders: &mut Orders) {
+    terms[usize::from(kept)] = entry.term;
+    orders[usize::from(kept)] = u64::from_be_bytes(entry.order);
 }
 
 /// How many entries are handed out; the orders are there for whoever takes them.

@@ -1,4 +1,4 @@
-//! When the box says no: 01's numbers.
+//! When the box says no: 01's numbers, and T-01's.
 
 /// The bytes, or fields to be written, are not one frame.
 pub const NOT_A_FRAME: u8 = 1;
@@ -24,3 +24,5 @@ pub const BAD_LINE: u8 = 10;
 pub const NO_HEAD: u8 = 11;
 /// Starting: bad box or mask; an event: the record breaks a rule.
 pub const BAD_RECORD: u8 = 12;
+/// Order of eight zero bytes: a client may not send the blank.
+pub const BLANK_ORDER: u8 = 13;

@@ -153,11 +153,14 @@ mod checks {
 
     #[test]
     fn from_the_head_to_a_committed_order() {
-        let append = "01 03 01 02 00000001 0000 00000000 0000 01 00000001 0123456789abcdef";
+        let blank = "01 03 01 02 00000001 0000 00000000 0000 01 00000001 0000000000000000";
+        let both = "01 03 01 02 00000001 0000 00000000 0000 02 00000001 0000000000000000 \
+                    00000001 0123456789abcdef";
         check(&[
             ("01110107", &["01110107"]),
             ("p", &["n3"]),
             ("o0123456789abcdef", &["n3"]),
+            ("o0000000000000000", &["n3"]),
             (
                 "t",
                 &[
@@ -169,27 +172,29 @@ mod checks {
             (
                 "01 02 02 01 00000001 01",
                 &[
-                    "01 03 01 02 00000001 0000 00000000 0000 00",
-                    "01 03 01 03 00000001 0000 00000000 0000 00",
+                    "01 10 01 00000001 01 0000 01 00000001 0000000000000000",
+                    blank,
+                    &blank.replacen("02", "03", 1),
                 ],
             ),
             ("t", &[]),
+            ("o0000000000000000", &["n13"]),
             (
                 "o0123456789abcdef",
                 &[
-                    "01 10 01 00000001 01 0000 01 00000001 0123456789abcdef",
-                    append,
-                    &append.replacen("02", "03", 1),
+                    "01 10 01 00000001 01 0001 01 00000001 0123456789abcdef",
+                    both,
+                    &both.replacen("02", "03", 1),
                 ],
             ),
-            ("01 04 02 01 00000001 01 0001", &[]),
+            ("01 04 02 01 00000001 01 0002", &[]),
             (
                 "p",
                 &[
-                    "01 03 01 02 00000001 0001 00000001 0001 00",
-                    &append
+                    "01 03 01 02 00000001 0002 00000001 0002 00",
+                    &both
                         .replacen("02", "03", 1)
-                        .replacen("0000 01", "0001 01", 1),
+                        .replacen("0000 02", "0002 02", 1),
                 ],
             ),
         ]);
@@ -301,7 +306,8 @@ mod checks {
                 assert_eq!(said(format!("{head}{line}").as_bytes()), head);
                 // The box is as it was: its first timeout is that of term 1.
                 let input = format!("{head}{line}\nt\n");
-                let output = format!("{head}n1\n0110010000000101000000\n");
+                let line = "0110010000000101000001000000010000000000000000";
+                let output = format!("{head}n1\n{line}\n");
                 assert_eq!(said(input.as_bytes()), output);
             }
         }
@@ -314,15 +320,19 @@ mod checks {
         assert_eq!(said(b"01110101\nt\nt"), said(b"01110101\nt\n"));
     }
 
-    /// A bad order line is n1 before any look at the role, and 4 after it.
+    /// A bad order line is n1 before any look at the role; 13 and 4 come after it.
     #[test]
     fn the_refusals_of_orders() {
         let lead = "01110101\nt\n";
-        let full = lead.to_string() + &"o0123456789abcdef\n".repeat(256);
+        let full = lead.to_string() + &"o0123456789abcdef\n".repeat(255);
         let line = |kept| format!("0110010000000101{kept:04x}01000000010123456789abcdef\n");
         let output = said(full.as_bytes());
         assert!(output.ends_with(&(line(254) + &line(255))));
-        for (order, refusal) in [("o0123456789abcdef", "n4"), ("o0123456789abcdeg", "n1")] {
+        for (order, refusal) in [
+            ("o0123456789abcdef", "n4"),
+            ("o0000000000000000", "n13"),
+            ("o000000000000000g", "n1"),
+        ] {
             let input = format!("{full}{order}\n");
             assert_eq!(said(input.as_bytes()), format!("{output}{refusal}\n"));
         }

@@ -60,9 +60,11 @@ mod checks {
         );
 
         assert_eq!(started.receive("010202010000000101\n"), 0);
-        assert_eq!(started.line, "");
-        let empty_append = |to| format!("01 03 01 {to} 00000001 0000 00000000 0000 00");
-        let appends = lines(&[&empty_append("02"), &empty_append("03")]);
+        let blank = "00000001 0000000000000000";
+        let line = |kept, entry| lines(&[&format!("01 10 01 00000001 01 {kept} 01 {entry}")]);
+        assert_eq!(started.line, line("0000", blank));
+        let first = |to| format!("01 03 01 {to} 00000001 0000 00000000 0000 01 {blank}");
+        let appends = lines(&[&first("02"), &first("03")]);
         assert_eq!(started.messages, appends);
         assert_eq!(started.timeout(), 0);
         assert_eq!((&*started.line, &*started.messages), ("", ""));
@@ -71,22 +73,30 @@ mod checks {
 
         assert_eq!(started.order(0xfedcba9876543210), 0);
         let entry = "00000001 fedcba9876543210";
-        assert_eq!(
-            started.line,
-            lines(&[&format!("01 10 01 00000001 01 0000 01 {entry}")])
-        );
-        let append = |to| format!("01 03 01 {to} 00000001 0000 00000000 0000 01 {entry}");
+        assert_eq!(started.line, line("0001", entry));
+        let append = |to| format!("01 03 01 {to} 00000001 0000 00000000 0000 02 {blank} {entry}");
         assert_eq!(started.messages, lines(&[&append("02"), &append("03")]));
         assert_eq!(
             handed_out(&started.node, &started.terms, &started.orders),
             Ok(0)
         );
 
+        // Yes to the blank, then to the order.
         assert_eq!(started.receive("0104020100000001010001\n"), 0);
-        assert_eq!((&*started.line, &*started.messages), ("", ""));
+        let second = "01 03 01 02 00000001 0001 00000001 0001 01".to_owned() + entry;
+        assert_eq!(
+            (&*started.line, &started.messages),
+            ("", &lines(&[&second]))
+        );
         assert_eq!(
             handed_out(&started.node, &started.terms, &started.orders),
             Ok(1)
+        );
+        assert_eq!(started.receive("0104020100000001010002\n"), 0);
+        assert_eq!((&*started.line, &*started.messages), ("", ""));
+        assert_eq!(
+            handed_out(&started.node, &started.terms, &started.orders),
+            Ok(2)
         );
 
         // A no steps back but not below match; the append carries commit.
@@ -94,7 +104,7 @@ mod checks {
             started.receive(&lines(&["01 04 02 01 00000001 00 0000"])),
             0
         );
-        let past = "01 03 01 02 00000001 0001 00000001 0001 00";
+        let past = "01 03 01 02 00000001 0002 00000001 0002 00";
         assert_eq!(started.messages, lines(&[past]));
     }
 }

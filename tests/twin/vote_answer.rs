@@ -2,19 +2,15 @@
 //! nothing.
 
 use crate::members::{bit, majority};
-use crate::record::{Node, Terms, CANDIDATE};
+use crate::record::{Node, CANDIDATE};
 
 impl Node {
-    /// An answer of no lower term: the boxes that get an append.
-    pub(crate) fn answered_vote(&mut self, from: u8, yes: bool, terms: &Terms) -> u8 {
+    /// An answer of no lower term: whether the box wins by it.
+    pub(crate) fn answered_vote(&mut self, from: u8, yes: bool) -> bool {
         if self.role != CANDIDATE || !yes {
-            return 0;
+            return false;
         }
         self.votes |= bit(from);
-        if !majority(self.votes, self.members) {
-            return 0;
-        }
-        self.win(terms);
-        self.others()
+        majority(self.votes, self.members)
     }
 }

@@ -80,9 +80,10 @@ fn in_term(journal: &mut Journal, term: u32) {
             journal.add(4);
             journal.add(term % 4 + 1);
         }
-        // It stands and leads.
+        // It stands and leads, and its blank comes first.
         2 => {
             journal.term(term, ME);
+            journal.line(journal.log.len(), &[(term, 0)]);
             journal.add(1);
             journal.add(1);
             journal.add(1);
