@@ -4,7 +4,7 @@ use Prim.Native.Nat.{ℕ, _+_}
 use native.Mathlib.Omega.{arith}
 use mathlib.Core.Path.{_≡_, refl, sym, ap, subst, _∙_}
 use mathlib.Core.Logic.{_⊎_, inl, inr}
-use mathlib.Core.List.{List, [], _∷_}
+use mathlib.Core.List.{List, []}
 use lib.ListN.{length, take}
 use Rattle.frames.specs.Message.{Message}
 use Rattle.raft.specs.Record.{State, fresh, handed-out}
@@ -25,7 +25,7 @@ use Rattle.safety.specs.Disks as disks
 use Rattle.safety.specs.Disks.{Seat, Site, built, Started, written, seated, Happens, Goes}
 use Rattle.safety.specs.DisksLaws.{Stored, awaits, lives, life-started, started-lives, opened-lives, built-mirrors, goes-on}
 use Rattle.safety.specs.ParkOnDisk.{Shown, shown, always-opens}
-use Rattle.safety.specs.Commits.{opens, entry, committed, commits}
+use Rattle.safety.specs.Commits.{opens, page, committed, commits}
 use Rattle.host.specs.Host.{Running, on, off, Host, nothing, HostRun, run-both}
 use Rattle.host.specs.Seen.{handed-by, log-in}
 use Rattle.host.specs.CallLaws.{record-of-box}
@@ -37,7 +37,7 @@ pub record FailsAt (k : ℕ) : Type 0 where
   -- box 2 hands out the order,
   pub first : Host
   pub run : HostRun 7 nothing first
-  pub hands : handed-by (first .box 2) ≡ entry ∷ []
+  pub hands : handed-by (first .box 2) ≡ page
   -- power fails at box 1,
   pub second : Host
   pub fails : HostRun 7 first second
@@ -49,7 +49,7 @@ pub record FailsAt (k : ℕ) : Type 0 where
   pub box : Running
   pub up : third .box 1 ≡ on box
   pub in-term : box .node .state .term ≡ 2
-  pub holds : Begins (entry ∷ []) (log-in (on box))
+  pub holds : Begins page (log-in (on box))
 
 -- The leader's second order,
 abbrev second-order : State
@@ -61,7 +61,7 @@ record Stands-again (s : State) : Type 0 where
   messages : List Message
   is : step times-out s ≡ done next messages
   in-term : next .term ≡ 2
-  holds : Begins (entry ∷ []) (next .log)
+  holds : Begins page (next .log)
 
 -- Without the second order, and with it.
 before : Stands-again (restarted committed)
@@ -73,7 +73,7 @@ unfolding opens restarted
 behind = record { next = standing (restarted second-order); messages = vote-requests (standing (restarted second-order)); is = refl; in-term = refl; holds = record { first = refl } }
 
 -- A park that has come so far.
-module _ (p : Park) (r : Reached 7 p) (leads : p .box 1 ≡ committed) (gave : handed-out (p .box 2) ≡ entry ∷ []) (k : ℕ) where
+module _ (p : Park) (r : Reached 7 p) (leads : p .box 1 ≡ committed) (gave : handed-out (p .box 2) ≡ page) (k : ℕ) where
   x : Shown 7 r
   x = shown 7 r
 
@@ -202,7 +202,7 @@ module _ (p : Park) (r : Reached 7 p) (leads : p .box 1 ≡ committed) (gave : h
           box = v .box;
           up = v .is-on;
           in-term = ap (λ (s : State). s .term) there ∙ either .in-term;
-          holds = subst (Begins (entry ∷ [])) (sym (ap (λ (s : State). s .log) there)) (either .holds);
+          holds = subst (Begins page) (sym (ap (λ (s : State). s .log) there)) (either .holds);
         }
 
   found-all : FailsAt k

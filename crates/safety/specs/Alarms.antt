@@ -4,7 +4,7 @@ use native.Mathlib.Omega.{arith}
 use mathlib.Core.Path.{_≡_, refl}
 use mathlib.Core.Bool.{true, false, _&&_}
 use mathlib.Core.List.{List}
-use lib.Dec.{eqb, ltb, leb}
+use lib.Dec.{eqb, ltb}
 use borrow.Author.Tests.{eqb-true, eqb-false, ltb-true, ltb-false}
 use Rattle.digits.specs.Tests.{and-left, and-right}
 use Rattle.frames.specs.declared.Entry.{Entry}
@@ -14,7 +14,7 @@ use Rattle.raft.specs.Record.{State, leader, last-index}
 use Rattle.raft.specs.Outcome.{Outcome, done, refuse}
 use Rattle.raft.specs.Winning.{won}
 use Rattle.raft.specs.Timeout.{timeout}
-use Rattle.raft.specs.Order.{order}
+use Rattle.raft.specs.Order.{is-full, blank, order}
 use Rattle.raft.specs.Prompt.{prompt}
 use Rattle.raft.specs.AnyMessage.{taken}
 use Rattle.raft.specs.VoteRequest.{on-vote-request}
@@ -137,7 +137,9 @@ module _ (sent : List (List ℕ)) (s : State) where
       (λ t. by-test Why (majority (s .members) (bit (s .me))) _ _ (λ m. refuses-done _ _ _) (λ m. refuses-done _ _ _)))
   event-alarms (takes-order o) c =
       by-test Why (eqb (s .role) leader) _ _
-      (λ r. by-test Why (leb _ (last-index s)) _ _ (λ f. no-alarm 4 (omega arith)) (λ f. refuses-done _ _ _)) (λ r. no-alarm 3 (omega arith))
+      (λ r. by-test Why (eqb o blank) _ _ (λ z. no-alarm 13 (omega arith))
+      (λ z. by-test Why (is-full s) _ _ (λ f. no-alarm 4 (omega arith)) (λ f. refuses-done _ _ _)))
+      (λ r. no-alarm 3 (omega arith))
   event-alarms is-prompted c = by-test Why (eqb (s .role) leader) _ _ (λ r. refuses-done _ _ _) (λ r. no-alarm 3 (omega arith))
   event-alarms (receives bytes) there =
       bytes-come Why s bytes (λ m a r. deliver-alarms m a (record { bytes = bytes; there = there; read = r }))

@@ -14,7 +14,7 @@ use Rattle.frames.specs.Message.{Message}
 use Rattle.raft.specs.Record.{State, leader, handed-out}
 use Rattle.raft.specs.Commit.{settle}
 use Rattle.raft.specs.Timeout.{standing}
-use Rattle.raft.specs.Winning.{leading}
+use Rattle.raft.specs.StepLaws.{winner-leads}
 use Rattle.raft.specs.Order.{ordered}
 use Rattle.raft.specs.AnyMessage.{taking, taken}
 use Rattle.raft.specs.VoteRequest.{voting}
@@ -64,16 +64,16 @@ not-taken term s =
 -- **A step from a leader that leaves its term leaves it leader.**
 pub leader-stays : {sent : List (List ℕ)} {s t : State} {ms : List Message} → Ending sent s t ms → s .role ≡ leader → s .term ≡ t .term
     → t .role ≡ leader
-unfolding standing leading ordered settle voting adding following joining heard
+unfolding standing ordered settle voting adding following joining heard
 leader-stays rests l e = l
 leader-stays stands l e = absurd (omega (arith, e))
-leader-stays (leads-alone most) l e = refl
+leader-stays (leads-alone most) l e = winner-leads _
 leader-stays (takes-up r room o) l e = l
 leader-stays (prompts r) l e = l
 leader-stays {s = s} (takes term) l e = rw (not-taken term s e) l
 leader-stays {s = s} (votes from to term index prior c g) l e = rw (not-taken term s e) l
 leader-stays {s = s} (votes-not from term) l e = rw (not-taken term s e) l
-leader-stays (wins from to term reply c n most) l e = refl
+leader-stays (wins from to term reply c n most) l e = winner-leads _
 leader-stays (counts from to term reply c n) l e = l
 leader-stays (declines from) l e = l
 leader-stays {s = s} (wants from term look) l e = absurd (look .unled (rw (not-taken term s e) l))

@@ -14,9 +14,10 @@ use Rattle.raft.specs.Record.{State, candidate, leader, last-index}
 use Rattle.raft.specs.Commit.{settle}
 use Rattle.raft.specs.Sends.{append-to, appends}
 use Rattle.raft.specs.SendLaws.{All, appends-all}
+use Rattle.raft.specs.StepLaws.{winner-ends}
 use Rattle.raft.specs.Timeout.{standing}
-use Rattle.raft.specs.Winning.{leading}
-use Rattle.raft.specs.Order.{ordered}
+use Rattle.raft.specs.Winning.{leading, winner}
+use Rattle.raft.specs.Order.{ordered, blank}
 use Rattle.raft.specs.AnyMessage.{taken}
 use Rattle.raft.specs.VoteRequest.{voting, vote-answer-to}
 use Rattle.raft.specs.VoteAnswer.{adding}
@@ -63,30 +64,39 @@ joining-next {h} {s} from index prior commit es k sent has =
       tells = (λ e. a .acked, tt);
     }
 
--- A candidate with a majority wins, settles its commit and sends its appends.
+-- A leader adds an entry.
+order-next : {h : History} {s : State} → Known h s → s .role ≡ leader → last-index s < log-limit → (o : ℕ)
+    → Next (s .members) (s .me) h (settle (ordered s o)) (appends (settle (ordered s o)))
+unfolding ordered
+order-next {s = s} k r room o =
+    let c = k .kept .leads r in
+    next-behind
+    (adds-grown (s .me) _ (k .facts) (c .start) (rw (k .kept .term) (c .won)))
+    (led-next (ordered-known o k r room) r)
+
+-- A box that wins leads, and adds the blank where there is room: so a win is followed by an addition, or by none.
+data Wins (s : State) : State → Type 0 where
+  bare : Wins s (leading s)
+  adds-blank : last-index s < log-limit → Wins s (ordered (leading s) blank)
+
+-- **A candidate with a majority wins,** settles its commit and sends its appends.
 won-next : {h : History} {s : State} → Known h s → s .role ≡ candidate → majority (s .members) (s .votes) ≡ true
-    → Next (s .members) (s .me) h (settle (leading s)) (appends (settle (leading s)))
+    → Next (s .members) (s .me) h (settle (winner s)) (appends (settle (winner s)))
 unfolding leading
 won-next {h} {s} k r most =
     let e = election k r most in
-    next-behind (wins-grown (s .me) (e .facts) (e .later)) (led-next (leading-known k r e) refl)
+    next-behind (wins-grown (s .me) (e .facts) (e .later)) (go (leading-known k r e) (winner-ends (Wins s) s bare adds-blank))
+  where
+    go : {more : History} {w : State} → Known more (leading s) → Wins s w → Next (s .members) (s .me) more (settle w) (appends (settle w))
+    go n bare = led-next n refl
+    go n (adds-blank room) = order-next n refl room blank
 
 module _ {sent : List (List ℕ)} {h : History} {s : State} (k : Known h s) (told : (m : Message) → Sent sent m → Tells (fixed (s .members)) h m) where
   -- A box that is alone stands and wins.
   alone-next : majority (s .members) (bit (s .me)) ≡ true
-      → Next (s .members) (s .me) h (settle (leading (standing s))) (appends (settle (leading (standing s))))
+      → Next (s .members) (s .me) h (settle (winner (standing s))) (appends (settle (winner (standing s))))
   unfolding standing
   alone-next most = next-behind (asks-grown (s .me) h) (won-next (standing-known k) refl most)
-
-  -- An order.
-  order-next : s .role ≡ leader → last-index s < log-limit → (o : ℕ)
-      → Next (s .members) (s .me) h (settle (ordered s o)) (appends (settle (ordered s o)))
-  unfolding ordered
-  order-next r room o =
-      let c = k .kept .leads r in
-      next-behind
-      (adds-grown (s .me) _ (k .facts) (c .start) (rw (k .kept .term) (c .won)))
-      (led-next (ordered-known o k r room) r)
 
   -- A vote: the asker's request tells that it asked.
   votes-next : (from to term index prior : ℕ) → Came sent s (vote-request from to term index prior) → Grants s from term index prior
@@ -144,7 +154,7 @@ unfolding All adding
 ending-next k told rests = next-same k (k .kept) tt
 ending-next k told stands = standing-next k
 ending-next k told (leads-alone most) = alone-next k told most
-ending-next k told (takes-up r room o) = order-next k told r room o
+ending-next k told (takes-up r room o) = order-next k r room o
 ending-next {s = s} k told (prompts r) = next-same k (k .kept) (appends-all _ s (append-sending k r))
 ending-next k told (takes term) = taken-next term (λ u. u) (λ u. []) k (λ more u e l n. next-same n (n .kept) tt)
 ending-next k told (votes from to term index prior c g) = votes-next k told from to term index prior c g

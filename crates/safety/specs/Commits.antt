@@ -1,37 +1,39 @@
--- That demand 3's book is not always empty: the leader of Elects takes an order, box 2 takes it up, the leader commits it, and box 2 hands it out.
--- Assumes nothing.
+-- That demand 3's book is not always empty: the leader of Elects takes an order behind its blank, box 2 takes both up, the leader commits them, and box 2
+-- hands them out. Assumes nothing.
 use Prim.Native.Nat.{ℕ, _≤_}
 use native.Mathlib.Omega.{arith}
 use mathlib.Core.Path.{_≡_, refl}
-use mathlib.Core.List.{[], _∷_, List·Memᴰ·head}
+use mathlib.Core.List.{List, [], _∷_, List·Memᴰ·head}
 use Rattle.frames.specs.declared.Entry.{Entry}
-use Rattle.frames.specs.Message.{Message, append, append-answer, text, entry-fields}
+use Rattle.frames.specs.Message.{Message, append, append-answer, entry-fields}
 use Rattle.frames.specs.Rules.{in-order}
 use Rattle.raft.specs.Record.{State, handed-out}
 use Rattle.raft.specs.Commit.{matches, matching, is-matched, highest, settled, settle}
 use Rattle.raft.specs.Sends.{appends}
-use Rattle.raft.specs.Winning.{leading}
 use Rattle.raft.specs.Order.{ordered, order}
 use Rattle.raft.specs.Prompt.{prompt}
 use Rattle.raft.specs.Append.{lacks, agreed, stop, passes, joined, cuts-committed, joining, on-append}
 use Rattle.raft.specs.AppendAnswer.{match-after, next-heard, heard, sends-again, answered, hear, on-append-answer}
-use Rattle.raft.specs.Event.{takes-order, is-prompted, receives}
+use Rattle.raft.specs.Event.{takes-order, is-prompted}
 use Rattle.history.specs.Begins.{Begins}
 use Rattle.history.specs.BeginsLaws.{begins-long}
 use Rattle.safety.specs.Park.{Park, after, Move, steps, Run, stays, moves, run-both, Reached, Leads}
 use Rattle.safety.specs.Runs.{parks}
 use Rattle.safety.specs.Demand3.{Demand3}
-use Rattle.safety.specs.Elects.{opens as opens-votes, arrives, box-1-leads, box-2-votes, third, third-reached}
+use Rattle.safety.specs.Elects.{opens as opens-votes, gets, blank-of, box-1-leads, box-2-votes, third, third-reached}
 
 -- To open this is to open every step.
 unfoldable pub opens : Unit {0}
-unfolding opens-votes leading ordered order prompt settle settled highest is-matched matching matches entry-fields in-order on-append lacks agreed
+unfolding opens-votes order prompt settle settled highest is-matched matching matches entry-fields in-order on-append lacks agreed
     stop passes joined cuts-committed joining on-append-answer hear heard match-after next-heard answered sends-again appends handed-out
 opens = tt
 
--- The order, in term 1.
+-- The order, in term 1, and what the leader of term 1 then holds.
 abbrev pub entry : Entry
 entry = record { term = 1; order = 50 }
+
+abbrev pub page : List Entry
+page = blank-of 1 ∷ entry ∷ []
 
 -- Box 1 takes the order,
 abbrev pub added : State
@@ -44,34 +46,30 @@ unfoldable pub to-fourth : Move 7 third fourth
 unfolding opens
 to-fourth = steps 1 refl (takes-order 50) (omega arith) added (appends added) refl
 
--- box 2 takes it up,
+-- box 2 takes it up with the blank,
 abbrev pub offer : Message
-offer = append 1 2 1 0 0 0 (entry ∷ [])
+offer = append 1 2 1 0 0 0 page
 
 abbrev pub joined-up : State
-joined-up = joining box-2-votes 0 0 (entry ∷ [])
+joined-up = joining box-2-votes 0 0 page
 
 abbrev pub fifth : Park
-fifth = after fourth 2 joined-up (append-answer 2 1 1 1 1 ∷ [])
+fifth = after fourth 2 joined-up (append-answer 2 1 1 1 2 ∷ [])
 
 unfoldable pub to-fifth : Move 7 fourth fifth
 unfolding opens
-to-fifth =
-    steps 2 refl (receives (text offer)) (List·Memᴰ·head refl) joined-up (append-answer 2 1 1 1 1 ∷ [])
-    (arrives box-2-votes joined-up offer (append-answer 2 1 1 1 1 ∷ []) refl (omega arith) refl)
+to-fifth = gets 2 refl offer (List·Memᴰ·head refl) joined-up (append-answer 2 1 1 1 2 ∷ []) refl (omega arith) refl
 
--- box 1 commits it,
+-- box 1 commits both,
 abbrev pub committed : State
-committed = settle (heard added 2 1 1)
+committed = settle (heard added 2 1 2)
 
 abbrev pub sixth : Park
 sixth = after fifth 1 committed []
 
 unfoldable pub to-sixth : Move 7 fifth sixth
 unfolding opens
-to-sixth =
-    steps 1 refl (receives (text (append-answer 2 1 1 1 1))) (List·Memᴰ·head refl) committed []
-    (arrives added committed (append-answer 2 1 1 1 1) [] refl (omega arith) refl)
+to-sixth = gets 1 refl (append-answer 2 1 1 1 2) (List·Memᴰ·head refl) committed [] refl (omega arith) refl
 
 -- the run in which the leader commits
 unfoldable pub commit-run : Run 7 third sixth
@@ -85,24 +83,22 @@ to-seventh : Move 7 sixth seventh
 unfolding opens
 to-seventh = steps 1 refl is-prompted tt committed (appends committed) refl
 
--- and box 2 hands it out.
+-- and box 2 hands them out.
 abbrev pub news : Message
-news = append 1 2 1 1 1 1 []
+news = append 1 2 1 2 1 2 []
 
 abbrev pub handing : State
-handing = joining joined-up 1 1 []
+handing = joining joined-up 2 2 []
 
 abbrev pub eighth : Park
-eighth = after seventh 2 handing (append-answer 2 1 1 1 1 ∷ [])
+eighth = after seventh 2 handing (append-answer 2 1 1 1 2 ∷ [])
 
 to-eighth : Move 7 seventh eighth
 unfolding opens
-to-eighth =
-    steps 2 refl (receives (text news)) (List·Memᴰ·head refl) handing (append-answer 2 1 1 1 1 ∷ [])
-    (arrives joined-up handing news (append-answer 2 1 1 1 1 ∷ []) refl (omega arith) refl)
+to-eighth = gets 2 refl news (List·Memᴰ·head refl) handing (append-answer 2 1 1 1 2 ∷ []) refl (omega arith) refl
 
 -- **A run in which a follower hands out an order.**
-pub commits : Reached 7 eighth × (handed-out (eighth .box 2) ≡ entry ∷ [])
+pub commits : Reached 7 eighth × (handed-out (eighth .box 2) ≡ page)
 unfolding opens
 commits = (moves (moves (run-both third-reached commit-run) to-seventh) to-eighth, refl)
 
@@ -113,7 +109,7 @@ pub own-term-not-held : ((p q : Park) → Reached 7 p → Run 7 p q → (i j t u
     → Begins (handed-out (q .box j)) (p .box i .log)) → ⊥
 unfolding opens
 own-term-not-held claim =
-    let b : Begins (entry ∷ []) [] =
+    let b : Begins page (blank-of 1 ∷ []) =
     claim third sixth third-reached commit-run 1 1 1 1 (record { role = refl; in-term = refl }) (record { role = refl; in-term = refl }) (omega arith) in
     omega (arith, begins-long b)
 

@@ -1,9 +1,11 @@
--- That demand 3's runs are not empty: three fresh boxes, a timeout, and one vote make a leader. Assumes nothing.
+-- That demand 3's runs are not empty: three fresh boxes, a timeout, and one vote make a leader, which holds its blank. Assumes nothing.
+use Prim.Native.Nat.{ℕ}
 use native.Mathlib.Omega.{arith}
 use mathlib.Core.Path.{_≡_, refl}
 use mathlib.Core.Bool.{true}
-use mathlib.Core.List.{List, [], _∷_, List·Memᴰ·head}
+use mathlib.Core.List.{List, [], _∷_, List·Memᴰ, List·Memᴰ·head}
 use lib.Count.{ones}
+use Rattle.frames.specs.declared.Entry.{Entry}
 use Rattle.frames.specs.Message.{Message, vote-request, vote-answer, text, table, sized}
 use Rattle.frames.specs.Rules.{obeys}
 use Rattle.frames.specs.OneSpelling.{frame-when}
@@ -13,7 +15,8 @@ use Rattle.raft.specs.Commit.{settle}
 use Rattle.raft.specs.Sends.{to-others, vote-requests, appends}
 use Rattle.raft.specs.Outcome.{done}
 use Rattle.raft.specs.Timeout.{standing, timeout}
-use Rattle.raft.specs.Winning.{leading, won}
+use Rattle.raft.specs.Order.{is-full, ordered, blank}
+use Rattle.raft.specs.Winning.{leading, with-blank, winner, won}
 use Rattle.raft.specs.AnyMessage.{taking, taken}
 use Rattle.raft.specs.VoteRequest.{grants, voting, asked, on-vote-request}
 use Rattle.raft.specs.VoteAnswer.{adding, counted, counts, on-vote-answer}
@@ -27,6 +30,7 @@ use Rattle.safety.specs.Park.{Park, start, frames, after, Move, steps, r
 unfoldable pub opens : Unit {0}
 unfolding start step fresh after put frames is-membership is-other holds majority ones term-at timeout standing vote-requests to-others table sized
     arrive is-for sender receiver term-of deliver current taken taking on-vote-request asked grants voting on-vote-answer counts counted adding won
+    winner with-blank is-full ordered leading
 opens = tt
 
 -- Box 1 of three stands,
@@ -46,6 +50,11 @@ pub arrives : (s t : State) (m : Message) (ms : List Message) → obeys m ≡ tr
 unfolding step receive arrive-read
 arrives s t m ms o z e = rw (frame-when (text m) m o z refl) e
 
+-- so a box may get one that was sent:
+unfoldable pub gets : {p : Park} (i : ℕ) → is-membership i 7 ≡ true → (m : Message) → List·Memᴰ (text m) (p .sent) → (t : State) (ms : List Message)
+    → obeys m ≡ true → sized (table m) → arrive m (p .box i) ≡ done t ms → Move 7 p (after p i t ms)
+gets {p} i b m there t ms o z e = steps i b (receives (text m)) there t ms (arrives (p .box i) t m ms o z e)
+
 -- box 2 gives it its vote,
 abbrev pub request : Message
 request = vote-request 1 2 1 0 0
@@ -59,9 +68,7 @@ second = after first 2 box-2-votes (vote-answer 2 1 1 1 ∷ [])
 unfoldable pub second-reached : Reached 7 second
 unfolding opens
 second-reached =
-    moves first-reached
-    (steps 2 refl (receives (text request)) (List·Memᴰ·head refl) box-2-votes (vote-answer 2 1 1 1 ∷ [])
-    (arrives (fresh 2 7) box-2-votes request (vote-answer 2 1 1 1 ∷ []) refl (omega arith) refl))
+    moves first-reached (gets 2 refl request (List·Memᴰ·head refl) box-2-votes (vote-answer 2 1 1 1 ∷ []) refl (omega arith) refl)
 
 -- (which it still has when it comes back,)
 pub comes-back-voted : (q : Park) × Move 7 second q × (q .box 2 .vote ≡ 1)
@@ -70,7 +77,7 @@ comes-back-voted = (_, restarts 2 refl, refl)
 
 -- and box 1 leads.
 abbrev pub box-1-leads : State
-box-1-leads = settle (leading (adding box-1-stands 2))
+box-1-leads = settle (winner (adding box-1-stands 2))
 
 abbrev pub third : Park
 third = after second 1 box-1-leads (appends box-1-leads)
@@ -78,11 +85,13 @@ third = after second 1 box-1-leads (appends box-1-leads)
 unfoldable pub third-reached : Reached 7 third
 unfolding opens
 third-reached =
-    moves second-reached
-    (steps 1 refl (receives (text (vote-answer 2 1 1 1))) (List·Memᴰ·head refl) box-1-leads (appends box-1-leads)
-    (arrives box-1-stands box-1-leads (vote-answer 2 1 1 1) (appends box-1-leads) refl (omega arith) refl))
+    moves second-reached (gets 1 refl (vote-answer 2 1 1 1) (List·Memᴰ·head refl) box-1-leads (appends box-1-leads) refl (omega arith) refl)
+
+-- The blank of a term.
+abbrev pub blank-of : ℕ → Entry
+blank-of t = record { term = t; order = blank }
 
 -- **A run with a leader.**
-pub elects : Reached 7 third × Leads (third .box 1) 1
-unfolding opens settle leading
-elects = (third-reached, record { role = refl; in-term = refl })
+pub elects : Reached 7 third × Leads (third .box 1) 1 × (third .box 1 .log ≡ blank-of 1 ∷ [])
+unfolding opens settle
+elects = (third-reached, record { role = refl; in-term = refl }, refl)

@@ -13,7 +13,7 @@ use Rattle.raft.specs.Record.{State, leader, last-index}
 use Rattle.raft.specs.Commit.{settle}
 use Rattle.raft.specs.Sends.{append-to, appends, vote-requests}
 use Rattle.raft.specs.Timeout.{standing}
-use Rattle.raft.specs.Winning.{leading}
+use Rattle.raft.specs.Winning.{winner}
 use Rattle.raft.specs.Order.{ordered}
 use Rattle.raft.specs.AnyMessage.{taken}
 use Rattle.raft.specs.VoteRequest.{voting, vote-answer-to}
@@ -36,7 +36,7 @@ pub data Ending (sent : List (List ℕ)) (s : State) : State → List Message �
   -- a timeout: a leader's does nothing; any other box stands, and leads at once where its own vote is a majority
   rests : Ending sent s s []
   stands : Ending sent s (standing s) (vote-requests (standing s))
-  leads-alone : majority (s .members) (bit (s .me)) ≡ true → Ending sent s (settle (leading (standing s))) (appends (settle (leading (standing s))))
+  leads-alone : majority (s .members) (bit (s .me)) ≡ true → Ending sent s (settle (winner (standing s))) (appends (settle (winner (standing s))))
   -- an order, and a prompt
   takes-up : s .role ≡ leader → last-index s < log-limit → (o : ℕ) → Ending sent s (settle (ordered s o)) (appends (settle (ordered s o)))
   prompts : s .role ≡ leader → Ending sent s s (appends s)
@@ -49,7 +49,7 @@ pub data Ending (sent : List (List ℕ)) (s : State) : State → List Message �
   -- a yes to a candidate: it wins, or waits for more
   wins : (from to term reply : ℕ) → Came sent s (vote-answer from to term reply) → Counts s term reply
       → majority (s .members) (adding s from .votes) ≡ true
-      → Ending sent s (settle (leading (adding s from))) (appends (settle (leading (adding s from))))
+      → Ending sent s (settle (winner (adding s from))) (appends (settle (winner (adding s from))))
   counts : (from to term reply : ℕ) → Came sent s (vote-answer from to term reply) → Counts s term reply → Ending sent s (adding s from) []
   -- an append: the no to a lower term, the no for want of the previous entry, and the yes
   declines : (from : ℕ) → Ending sent s s (append-answer-to s from 0 false ∷ [])

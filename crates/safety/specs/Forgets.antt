@@ -4,23 +4,23 @@ use Prim.Native.Nat.{ℕ}
 use native.Mathlib.Omega.{arith}
 use mathlib.Core.Path.{_≡_, refl}
 use mathlib.Core.Bool.{true}
-use mathlib.Core.List.{List, [], _∷_, List·Memᴰ·head, List·Memᴰ·tail}
-use Rattle.frames.specs.Message.{Message, vote-request, vote-answer, text}
+use mathlib.Core.List.{[], _∷_, List·Memᴰ·head, List·Memᴰ·tail}
+use Rattle.frames.specs.Message.{vote-request, vote-answer}
 use Rattle.raft.specs.Record.{State, fresh, is-membership}
 use Rattle.raft.specs.Commit.{settle}
 use Rattle.raft.specs.Sends.{vote-requests, appends}
 use Rattle.raft.specs.Timeout.{standing}
-use Rattle.raft.specs.Winning.{leading}
+use Rattle.raft.specs.Winning.{winner}
 use Rattle.raft.specs.AnyMessage.{taking}
 use Rattle.raft.specs.VoteRequest.{voting}
 use Rattle.raft.specs.VoteAnswer.{adding}
-use Rattle.raft.specs.Event.{times-out, receives}
+use Rattle.raft.specs.Event.{times-out}
 use Rattle.safety.specs.Park.{Park, after, steps, Run, stays, moves, Reached, Leads}
-use Rattle.safety.specs.Elects.{opens as opens-votes, arrives, third, third-reached}
+use Rattle.safety.specs.Elects.{opens as opens-votes, gets, third, third-reached}
 
 -- To open this is to open every step.
 opens : Unit {0}
-unfolding opens-votes leading settle
+unfolding opens-votes settle
 opens = tt
 
 -- Box 2 is fresh again,
@@ -43,7 +43,7 @@ votes-again = after three-asks 2 box-2-again (vote-answer 2 3 1 1 ∷ [])
 
 -- and it leads term 1, as box 1 does.
 abbrev box-3-leads : State
-box-3-leads = settle (leading (adding box-3-stands 2))
+box-3-leads = settle (winner (adding box-3-stands 2))
 
 abbrev both-lead : Park
 both-lead = after votes-again 3 box-3-leads (appends box-3-leads)
@@ -54,10 +54,8 @@ unfolding opens
 forget-run =
     moves
     (moves (moves stays (steps 3 refl times-out tt box-3-stands (vote-requests box-3-stands) refl))
-    (steps 2 refl (receives (text (vote-request 3 2 1 0 0))) (List·Memᴰ·tail (List·Memᴰ·head refl)) box-2-again (vote-answer 2 3 1 1 ∷ [])
-    (arrives (fresh 2 7) box-2-again (vote-request 3 2 1 0 0) (vote-answer 2 3 1 1 ∷ []) refl (omega arith) refl)))
-    (steps 3 refl (receives (text (vote-answer 2 3 1 1))) (List·Memᴰ·head refl) box-3-leads (appends box-3-leads)
-    (arrives box-3-stands box-3-leads (vote-answer 2 3 1 1) (appends box-3-leads) refl (omega arith) refl))
+    (gets 2 refl (vote-request 3 2 1 0 0) (List·Memᴰ·tail (List·Memᴰ·head refl)) box-2-again (vote-answer 2 3 1 1 ∷ []) refl (omega arith) refl))
+    (gets 3 refl (vote-answer 2 3 1 1) (List·Memᴰ·head refl) box-3-leads (appends box-3-leads) refl (omega arith) refl)
 
 -- **Where a box comes back fresh, "no term has two leaders" is false.**
 pub forgets : ((p q : Park) → Reached 7 p → (k : ℕ) → is-membership k 7 ≡ true → Run 7 (after p k (fresh k 7) []) q

@@ -11,7 +11,7 @@ use Rattle.raft.specs.Commit.{settle}
 use Rattle.raft.specs.Sends.{appends}
 use Rattle.raft.specs.SendLaws.{All, vote-requests-all, appends-all}
 use Rattle.raft.specs.Timeout.{standing}
-use Rattle.raft.specs.Winning.{leading}
+use Rattle.raft.specs.StepLaws.{winner-leads}
 use Rattle.raft.specs.Order.{ordered}
 use Rattle.raft.specs.AnyMessage.{taken}
 use Rattle.raft.specs.VoteRequest.{voting}
@@ -65,16 +65,16 @@ joins-hands-out {sent} {h} {s} k told from to term index prior commit es c look 
 -- **Each ending hands out so.**
 pub ending-hands : {sent : List (List ℕ)} {h : History} {s t : State} {ms : List Message} → Known h s
     → ((m : Message) → Sent sent m → Tells (fixed (s .members)) h m) → Ending sent s t ms → HandsOut sent h s t
-unfolding handed-out standing leading ordered settle voting adding following heard
+unfolding handed-out standing ordered settle voting adding following heard
 ending-hands k told rests = same refl
 ending-hands k told stands = same refl
-ending-hands k told (leads-alone most) = leads refl
+ending-hands k told (leads-alone most) = leads (winner-leads _)
 ending-hands k told (takes-up r room o) = leads r
 ending-hands k told (prompts r) = leads r
 ending-hands {s = s} k told (takes term) = same (taken-same-hands term s)
 ending-hands {s = s} k told (votes from to term index prior c g) = same (taken-same-hands term s)
 ending-hands {s = s} k told (votes-not from term) = same (taken-same-hands term s)
-ending-hands k told (wins from to term reply c n most) = leads refl
+ending-hands k told (wins from to term reply c n most) = leads (winner-leads _)
 ending-hands k told (counts from to term reply c n) = same refl
 ending-hands k told (declines from) = same refl
 ending-hands {s = s} k told (wants from term look) = same (taken-same-hands term s)
@@ -104,16 +104,16 @@ appends-led t r = appends-all (IfAppend t) t (λ i l m o. record { leads = r; no
 
 -- **Each ending sends so.**
 pub ending-appends : {sent : List (List ℕ)} {s t : State} {ms : List Message} → Ending sent s t ms → All (IfAppend t) ms
-unfolding All IfAppend leading ordered settle heard
+unfolding All IfAppend ordered settle heard
 ending-appends rests = tt
 ending-appends {t = t} stands = vote-requests-all (IfAppend t) t (λ i l m o. tt)
-ending-appends {t = t} (leads-alone most) = appends-led t refl
+ending-appends {t = t} (leads-alone most) = appends-led t (winner-leads _)
 ending-appends {t = t} (takes-up r room o) = appends-led t r
 ending-appends {t = t} (prompts r) = appends-led t r
 ending-appends (takes term) = tt
 ending-appends (votes from to term index prior c g) = (tt, tt)
 ending-appends (votes-not from term) = (tt, tt)
-ending-appends {t = t} (wins from to term reply c n most) = appends-led t refl
+ending-appends {t = t} (wins from to term reply c n most) = appends-led t (winner-leads _)
 ending-appends (counts from to term reply c n) = tt
 ending-appends (declines from) = (tt, tt)
 ending-appends (wants from term look) = (tt, tt)

@@ -15,7 +15,7 @@ use Rattle.raft.specs.Commit.{settle}
 use Rattle.raft.specs.Sends.{vote-requests, appends}
 use Rattle.raft.specs.Outcome.{done}
 use Rattle.raft.specs.Timeout.{standing}
-use Rattle.raft.specs.Winning.{leading}
+use Rattle.raft.specs.Winning.{winner}
 use Rattle.raft.specs.AnyMessage.{taking}
 use Rattle.raft.specs.VoteRequest.{voting}
 use Rattle.raft.specs.VoteAnswer.{adding}
@@ -30,7 +30,7 @@ use Rattle.safety.specs.Elects.{opens as opens-votes, arrives, request, 
 
 -- To open this is to open every step.
 unfoldable pub opens : Unit {0}
-unfolding opens-votes built seated leading settle restarted
+unfolding opens-votes built seated settle restarted
 opens = tt
 
 -- A box's step, its line whole.
@@ -123,7 +123,7 @@ votes-again = stepped (back (yea ∷ [])) 2 box-2-again (vote-answer 2 3 1 1 ∷
 
 -- which leads,
 abbrev pub box-3-leads : State
-box-3-leads = settle (leading (adding box-3-stands 2))
+box-3-leads = settle (winner (adding box-3-stands 2))
 
 abbrev three-leads : Site
 three-leads = stepped votes-again 3 box-3-leads (appends box-3-leads)

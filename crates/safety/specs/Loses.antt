@@ -1,7 +1,8 @@
 -- Why the old struct is never kept with the new log (docs/HOST.md, 3): an order that a leader has committed and handed out is lost. Box 1 of Commits has
--- an entry of term 1 that nobody else has, and has taken term 2; box 2 leads term 2 by box 3's vote and takes an order. Its append replaces box 1's entry,
--- but the line of that step is not written, and box 1 goes on with its old struct and the new log. The append comes again: nothing is to be written, box 1
--- says yes, and box 2 commits. Power fails at box 1; it comes back by its journal, which has the old entry, and leads term 3 with it. Assumes nothing.
+-- entries of term 1 that nobody else has, and has taken term 2; box 2 leads term 2 by box 3's vote and takes an order. Its append, the blank and the order,
+-- replaces box 1's entries, but the line of that step is not written, and box 1 goes on with its old struct and the new log. The append comes again: nothing
+-- is to be written, box 1 says yes, and box 2 commits. Power fails at box 1; it comes back by its journal, which has the old entries, and leads term 3 with
+-- them. Assumes nothing.
 use Prim.Native.Nat.{ℕ, _≤_}
 use native.Mathlib.Omega.{arith}
 use mathlib.Core.Path.{_≡_, refl, ap}
@@ -16,7 +17,7 @@ use Rattle.raft.specs.Commit.{settle}
 use Rattle.raft.specs.Sends.{vote-requests, appends}
 use Rattle.raft.specs.Outcome.{done}
 use Rattle.raft.specs.Timeout.{standing}
-use Rattle.raft.specs.Winning.{leading}
+use Rattle.raft.specs.Winning.{winner}
 use Rattle.raft.specs.Order.{ordered}
 use Rattle.raft.specs.AnyMessage.{taking}
 use Rattle.raft.specs.VoteRequest.{voting}
@@ -27,7 +28,7 @@ use Rattle.raft.specs.Event.{Event, times-out, takes-order, receives, step}
 use Rattle.journal.specs.Opening.{restarted}
 use Rattle.history.specs.Begins.{Begins}
 use Rattle.safety.specs.Park.{Park, Comes, after, Move, steps, Run, stays, moves, run-both, Reached, Leads}
-use Rattle.safety.specs.Elects.{arrives, box-2-votes, third-reached}
+use Rattle.safety.specs.Elects.{arrives, gets, blank-of, box-2-votes, third-reached}
 use Rattle.safety.specs.Commits.{opens as opens-orders, entry, added, fourth, to-fourth}
 
 -- To open this is to open every step.
@@ -60,14 +61,14 @@ yea-3 = after told-1 3 votes-3 (vote-answer 3 2 2 1 ∷ [])
 
 -- it leads,
 abbrev leads-2 : State
-leads-2 = settle (leading (adding stands-2 3))
+leads-2 = settle (winner (adding stands-2 3))
 
 abbrev led-2 : Park
 led-2 = after yea-3 2 leads-2 (appends leads-2)
 
 -- and takes an order.
-abbrev other : Entry
-other = record { term = 2; order = 60 }
+abbrev others : List Entry
+others = blank-of 2 ∷ record { term = 2; order = 60 } ∷ []
 
 abbrev added-2 : State
 added-2 = settle (ordered leads-2 60)
@@ -77,21 +78,16 @@ taken-2 = after led-2 2 added-2 (appends added-2)
 
 to-told-1 : Move 7 asks-2 told-1
 unfolding opens
-to-told-1 =
-    steps 1 refl (receives (text (vote-request 2 1 2 0 0))) (List·Memᴰ·head refl) old-1 (vote-answer 1 2 2 0 ∷ [])
-    (arrives added old-1 (vote-request 2 1 2 0 0) (vote-answer 1 2 2 0 ∷ []) refl (omega arith) refl)
+to-told-1 = gets 1 refl (vote-request 2 1 2 0 0) (List·Memᴰ·head refl) old-1 (vote-answer 1 2 2 0 ∷ []) refl (omega arith) refl
 
 to-yea-3 : Move 7 told-1 yea-3
 unfolding opens
 to-yea-3 =
-    steps 3 refl (receives (text (vote-request 2 3 2 0 0))) (List·Memᴰ·tail (List·Memᴰ·tail (List·Memᴰ·head refl))) votes-3 (vote-answer 3 2 2 1 ∷ [])
-    (arrives (fresh 3 7) votes-3 (vote-request 2 3 2 0 0) (vote-answer 3 2 2 1 ∷ []) refl (omega arith) refl)
+    gets 3 refl (vote-request 2 3 2 0 0) (List·Memᴰ·tail (List·Memᴰ·tail (List·Memᴰ·head refl))) votes-3 (vote-answer 3 2 2 1 ∷ []) refl (omega arith) refl
 
 to-led-2 : Move 7 yea-3 led-2
 unfolding opens
-to-led-2 =
-    steps 2 refl (receives (text (vote-answer 3 2 2 1))) (List·Memᴰ·head refl) leads-2 (appends leads-2)
-    (arrives stands-2 leads-2 (vote-answer 3 2 2 1) (appends leads-2) refl (omega arith) refl)
+to-led-2 = gets 2 refl (vote-answer 3 2 2 1) (List·Memᴰ·head refl) leads-2 (appends leads-2) refl (omega arith) refl
 
 before-run : Run 7 fourth taken-2
 unfolding opens
@@ -101,14 +97,14 @@ before-run =
 
 -- Its append comes to box 1,
 abbrev offer-2 : Message
-offer-2 = append 2 1 2 0 0 0 (other ∷ [])
+offer-2 = append 2 1 2 0 0 0 others
 
 abbrev new-1 : State
-new-1 = joining old-1 0 0 (other ∷ [])
+new-1 = joining old-1 0 0 others
 
-offered : step (receives (text offer-2)) (taken-2 .box 1) ≡ done new-1 (append-answer 1 2 2 1 1 ∷ [])
+offered : step (receives (text offer-2)) (taken-2 .box 1) ≡ done new-1 (append-answer 1 2 2 1 2 ∷ [])
 unfolding opens
-offered = arrives old-1 new-1 offer-2 (append-answer 1 2 2 1 1 ∷ []) refl (omega arith) refl
+offered = arrives old-1 new-1 offer-2 (append-answer 1 2 2 1 2 ∷ []) refl (omega arith) refl
 
 -- ---- the old struct with the new log
 
@@ -120,14 +116,14 @@ mixed-up = after taken-2 1 mixed []
 
 -- says yes to the same append, with nothing to write,
 abbrev again-1 : State
-again-1 = joining mixed 0 0 (other ∷ [])
+again-1 = joining mixed 0 0 others
 
 abbrev said : Park
-said = after mixed-up 1 again-1 (append-answer 1 2 2 1 1 ∷ [])
+said = after mixed-up 1 again-1 (append-answer 1 2 2 1 2 ∷ [])
 
 -- and box 2 commits.
 abbrev done-2 : State
-done-2 = settle (heard added-2 1 1 1)
+done-2 = settle (heard added-2 1 1 2)
 
 abbrev committed-2 : Park
 committed-2 = after said 2 done-2 []
@@ -135,12 +131,8 @@ committed-2 = after said 2 done-2 []
 mixed-run : Run 7 mixed-up committed-2
 unfolding opens
 mixed-run =
-    moves
-    (moves stays
-    (steps 1 refl (receives (text offer-2)) (List·Memᴰ·head refl) again-1 (append-answer 1 2 2 1 1 ∷ [])
-    (arrives mixed again-1 offer-2 (append-answer 1 2 2 1 1 ∷ []) refl (omega arith) refl)))
-    (steps 2 refl (receives (text (append-answer 1 2 2 1 1))) (List·Memᴰ·head refl) done-2 []
-    (arrives added-2 done-2 (append-answer 1 2 2 1 1) [] refl (omega arith) refl))
+    moves (moves stays (gets 1 refl offer-2 (List·Memᴰ·head refl) again-1 (append-answer 1 2 2 1 2 ∷ []) refl (omega arith) refl))
+    (gets 2 refl (append-answer 1 2 2 1 2) (List·Memᴰ·head refl) done-2 [] refl (omega arith) refl)
 
 -- ---- back by the journal
 
@@ -163,7 +155,7 @@ yea-1 = after asks-1 3 again-3 (vote-answer 3 1 3 1 ∷ [])
 
 -- and it leads.
 abbrev leads-1 : State
-leads-1 = settle (leading (adding stands-1 3))
+leads-1 = settle (winner (adding stands-1 3))
 
 abbrev led-1 : Park
 led-1 = after yea-1 1 leads-1 (appends leads-1)
@@ -173,10 +165,8 @@ unfolding opens
 back-run =
     moves
     (moves (moves stays (steps 1 refl times-out tt stands-1 (vote-requests stands-1) refl))
-    (steps 3 refl (receives (text (vote-request 1 3 3 1 1))) (List·Memᴰ·tail (List·Memᴰ·head refl)) again-3 (vote-answer 3 1 3 1 ∷ [])
-    (arrives votes-3 again-3 (vote-request 1 3 3 1 1) (vote-answer 3 1 3 1 ∷ []) refl (omega arith) refl)))
-    (steps 1 refl (receives (text (vote-answer 3 1 3 1))) (List·Memᴰ·head refl) leads-1 (appends leads-1)
-    (arrives stands-1 leads-1 (vote-answer 3 1 3 1) (appends leads-1) refl (omega arith) refl))
+    (gets 3 refl (vote-request 1 3 3 2 1) (List·Memᴰ·tail (List·Memᴰ·head refl)) again-3 (vote-answer 3 1 3 1 ∷ []) refl (omega arith) refl))
+    (gets 1 refl (vote-answer 3 1 3 1) (List·Memᴰ·head refl) leads-1 (appends leads-1) refl (omega arith) refl)
 
 -- **Where a box keeps its old struct with the log that a step left, and comes back by its journal (in which nothing was written since), "every leader holds what
 -- was committed in earlier terms" is false.**
@@ -186,9 +176,9 @@ pub loses : ((p q r : Park) → Reached 7 p → (k : ℕ) → is-membership k 7 
     → (i j s u : ℕ) → Leads (q .box i) s → Leads (r .box j) u → s ≤ u → Begins (handed-out (q .box i)) (r .box j .log)) → ⊥
 unfolding opens same-stored kept
 loses claim =
-    let b : Begins (other ∷ []) (entry ∷ []) =
+    let b : Begins others (blank-of 1 ∷ entry ∷ blank-of 3 ∷ []) =
     claim taken-2 committed-2 led-1 (run-both (moves third-reached to-fourth) before-run) 1 refl (receives (text offer-2)) (List·Memᴰ·head refl)
-    new-1 (append-answer 1 2 2 1 1 ∷ []) offered mixed-run refl back-run 2 1 2 3
+    new-1 (append-answer 1 2 2 1 2 ∷ []) offered mixed-run refl back-run 2 1 2 3
     (record { role = refl; in-term = refl }) (record { role = refl; in-term = refl }) (omega arith) in
-    let never : _≡_ {A = ℕ} 1 2 = ap (λ (l : List Entry). getD l 0 other .term) (b .first) in
+    let never : _≡_ {A = ℕ} 1 2 = ap (λ (l : List Entry). getD l 0 entry .term) (b .first) in
     omega (arith, never)

@@ -4,19 +4,19 @@ use Prim.Native.Nat.{ℕ}
 use native.Mathlib.Omega.{arith}
 use mathlib.Core.Path.{_≡_, refl}
 use mathlib.Core.List.{[], _∷_, List·Memᴰ·head, List·Memᴰ·tail}
-use Rattle.frames.specs.Message.{Message, vote-request, vote-answer, text}
+use Rattle.frames.specs.Message.{Message, vote-request, vote-answer}
 use Rattle.raft.specs.Record.{State, fresh, handed-out}
 use Rattle.raft.specs.Commit.{settle}
 use Rattle.raft.specs.Sends.{vote-requests, appends}
 use Rattle.raft.specs.Timeout.{standing}
-use Rattle.raft.specs.Winning.{leading}
+use Rattle.raft.specs.Winning.{winner}
 use Rattle.raft.specs.AnyMessage.{taking}
 use Rattle.raft.specs.VoteRequest.{voting}
 use Rattle.raft.specs.VoteAnswer.{adding}
-use Rattle.raft.specs.Event.{times-out, receives}
+use Rattle.raft.specs.Event.{times-out}
 use Rattle.safety.specs.Park.{Park, after, Move, steps, Run, stays, moves, run-both, Reached, Leads}
-use Rattle.safety.specs.Elects.{arrives, third-reached}
-use Rattle.safety.specs.Commits.{opens, entry, joined-up, sixth, commit-run}
+use Rattle.safety.specs.Elects.{gets, blank-of, third-reached}
+use Rattle.safety.specs.Commits.{opens, entry, page, joined-up, sixth, commit-run}
 
 -- Box 2 stands,
 abbrev pub box-2-stands : State
@@ -31,7 +31,7 @@ to-two-asks = steps 2 refl times-out tt box-2-stands (vote-requests box-2-stands
 
 -- box 3 gives it its vote,
 abbrev pub request-2 : Message
-request-2 = vote-request 2 3 2 1 1
+request-2 = vote-request 2 3 2 2 1
 
 abbrev pub box-3-votes : State
 box-3-votes = voting (taking 2 (fresh 3 7)) 2
@@ -42,21 +42,18 @@ three-votes = after two-asks 3 box-3-votes (vote-answer 3 2 2 1 ∷ [])
 unfoldable pub to-three-votes : Move 7 two-asks three-votes
 unfolding opens
 to-three-votes =
-    steps 3 refl (receives (text request-2)) (List·Memᴰ·tail (List·Memᴰ·head refl)) box-3-votes (vote-answer 3 2 2 1 ∷ [])
-    (arrives (fresh 3 7) box-3-votes request-2 (vote-answer 3 2 2 1 ∷ []) refl (omega arith) refl)
+    gets 3 refl request-2 (List·Memᴰ·tail (List·Memᴰ·head refl)) box-3-votes (vote-answer 3 2 2 1 ∷ []) refl (omega arith) refl
 
 -- and box 2 leads.
 abbrev pub box-2-leads : State
-box-2-leads = settle (leading (adding box-2-stands 3))
+box-2-leads = settle (winner (adding box-2-stands 3))
 
 abbrev pub two-leads : Park
 two-leads = after three-votes 2 box-2-leads (appends box-2-leads)
 
 unfoldable pub to-two-leads : Move 7 three-votes two-leads
 unfolding opens
-to-two-leads =
-    steps 2 refl (receives (text (vote-answer 3 2 2 1))) (List·Memᴰ·head refl) box-2-leads (appends box-2-leads)
-    (arrives box-2-stands box-2-leads (vote-answer 3 2 2 1) (appends box-2-leads) refl (omega arith) refl)
+to-two-leads = gets 2 refl (vote-answer 3 2 2 1) (List·Memᴰ·head refl) box-2-leads (appends box-2-leads) refl (omega arith) refl
 
 -- the run in which it comes to lead
 unfoldable pub succeed-run : Run 7 sixth two-leads
@@ -75,8 +72,8 @@ pub leads-2 : Leads (two-leads .box 2) 2
 unfolding opens
 leads-2 = record { role = refl; in-term = refl }
 
--- **and what the one has committed the other holds.**
-pub succeeds : (handed-out (sixth .box 1) ≡ entry ∷ []) × (two-leads .box 2 .log ≡ entry ∷ [])
+-- **and what the one has committed the other holds,** with its own blank behind it.
+pub succeeds : (handed-out (sixth .box 1) ≡ page) × (two-leads .box 2 .log ≡ blank-of 1 ∷ entry ∷ blank-of 2 ∷ [])
 unfolding opens
 succeeds = (refl, refl)
 

@@ -1,30 +1,33 @@
--- That the book grows over two terms: the second leader of Succeeds takes an order, brings box 3 up to date and commits it behind the first leader's,
--- while box 1 leads term 1 still and does not hold it. The book of that run, and what is not claimed of it. Assumes nothing.
+-- That the book grows over two terms: the second leader of Succeeds takes an order, brings box 3 up to date and commits blank and order behind the first
+-- leader's, while box 1 leads term 1 still and does not hold them. The book of that run, and what is not claimed of it. Assumes nothing.
 use Prim.Native.Nat.{ℕ, suc}
 use native.Mathlib.Omega.{arith}
 use mathlib.Core.Path.{_≡_, refl}
-use mathlib.Core.List.{[], _∷_, List·Memᴰ·head, List·Memᴰ·tail}
+use mathlib.Core.List.{List, [], _∷_, List·Memᴰ·head, List·Memᴰ·tail}
 use Rattle.frames.specs.declared.Entry.{Entry}
-use Rattle.frames.specs.Message.{Message, append, append-answer, text}
+use Rattle.frames.specs.Message.{Message, append, append-answer}
 use Rattle.raft.specs.Record.{State, handed-out}
 use Rattle.raft.specs.Commit.{settle}
-use Rattle.raft.specs.Sends.{appends}
+use Rattle.raft.specs.Sends.{append-to, appends}
 use Rattle.raft.specs.Order.{ordered}
 use Rattle.raft.specs.Append.{following, joining}
 use Rattle.raft.specs.AppendAnswer.{heard}
-use Rattle.raft.specs.Event.{takes-order, receives}
+use Rattle.raft.specs.Event.{takes-order}
 use Rattle.history.specs.Begins.{Begins}
 use Rattle.history.specs.BeginsLaws.{begins-long}
 use Rattle.safety.specs.Park.{Park, after, Move, steps, Run, stays, moves, run-both, Reached, Leads}
 use Rattle.safety.specs.Book.{by-leader, writes, longer, book, below}
 use Rattle.safety.specs.Runs.{moved, moves-of}
-use Rattle.safety.specs.Elects.{arrives, first-reached, second-reached, third, third-reached}
-use Rattle.safety.specs.Commits.{opens, entry, sixth, to-fourth, to-fifth, to-sixth, commit-run}
+use Rattle.safety.specs.Elects.{gets, blank-of, first-reached, second-reached, third, third-reached}
+use Rattle.safety.specs.Commits.{opens, entry, page, sixth, to-fourth, to-fifth, to-sixth, commit-run}
 use Rattle.safety.specs.Succeeds.{box-2-leads, box-3-votes, two-leads, to-two-asks, to-three-votes, to-two-leads, succeed-run}
 
--- The order, in term 2.
+-- The order, in term 2, and what the leader of term 2 then holds.
 abbrev pub later-entry : Entry
 later-entry = record { term = 2; order = 60 }
+
+abbrev pub pages : List Entry
+pages = blank-of 1 ∷ entry ∷ blank-of 2 ∷ later-entry ∷ []
 
 -- Box 2 takes it,
 abbrev holds-both : State
@@ -37,9 +40,9 @@ to-offered : Move 7 two-leads offered
 unfolding opens
 to-offered = steps 2 refl (takes-order 60) (omega arith) holds-both (appends holds-both) refl
 
--- box 3, which lacks the entry before it, says no,
-abbrev one-entry : Message
-one-entry = append 2 3 2 1 1 0 (later-entry ∷ [])
+-- box 3, which lacks the entries before them, says no,
+abbrev own-entries : Message
+own-entries = append 2 3 2 2 1 0 (blank-of 2 ∷ later-entry ∷ [])
 
 abbrev lacking : State
 lacking = following box-3-votes
@@ -50,57 +53,60 @@ declined = after offered 3 lacking (append-answer 3 2 2 0 0 ∷ [])
 to-declined : Move 7 offered declined
 unfolding opens following
 to-declined =
-    steps 3 refl (receives (text one-entry)) (List·Memᴰ·tail (List·Memᴰ·head refl)) lacking (append-answer 3 2 2 0 0 ∷ [])
-    (arrives box-3-votes lacking one-entry (append-answer 3 2 2 0 0 ∷ []) refl (omega arith) refl)
+    gets 3 refl own-entries (List·Memᴰ·tail (List·Memᴰ·head refl)) lacking (append-answer 3 2 2 0 0 ∷ []) refl (omega arith) refl
 
--- is sent both,
+-- which box 2 hears twice, so that it sends all,
 abbrev steps-back : State
 steps-back = settle (heard holds-both 3 0 0)
 
-abbrev both-entries : Message
-both-entries = append 2 3 2 0 0 0 (entry ∷ later-entry ∷ [])
+abbrev at-start : State
+at-start = settle (heard steps-back 3 0 0)
 
 abbrev resent : Park
-resent = after declined 2 steps-back (both-entries ∷ [])
+resent = after declined 2 steps-back (append-to steps-back 3 ∷ [])
 
 to-resent : Move 7 declined resent
 unfolding opens
-to-resent =
-    steps 2 refl (receives (text (append-answer 3 2 2 0 0))) (List·Memᴰ·head refl) steps-back (both-entries ∷ [])
-    (arrives holds-both steps-back (append-answer 3 2 2 0 0) (both-entries ∷ []) refl (omega arith) refl)
+to-resent = gets 2 refl (append-answer 3 2 2 0 0) (List·Memᴰ·head refl) steps-back (append-to steps-back 3 ∷ []) refl (omega arith) refl
 
--- takes them up,
+abbrev all-entries : Message
+all-entries = append 2 3 2 0 0 0 pages
+
+abbrev all-sent : Park
+all-sent = after resent 2 at-start (all-entries ∷ [])
+
+to-all-sent : Move 7 resent all-sent
+unfolding opens
+to-all-sent = gets 2 refl (append-answer 3 2 2 0 0) (List·Memᴰ·tail (List·Memᴰ·head refl)) at-start (all-entries ∷ []) refl (omega arith) refl
+
+-- box 3 takes them up,
 abbrev holding : State
-holding = joining lacking 0 0 (entry ∷ later-entry ∷ [])
+holding = joining lacking 0 0 pages
 
 abbrev accepted : Park
-accepted = after resent 3 holding (append-answer 3 2 2 1 2 ∷ [])
+accepted = after all-sent 3 holding (append-answer 3 2 2 1 4 ∷ [])
 
-to-accepted : Move 7 resent accepted
+to-accepted : Move 7 all-sent accepted
 unfolding opens following
-to-accepted =
-    steps 3 refl (receives (text both-entries)) (List·Memᴰ·head refl) holding (append-answer 3 2 2 1 2 ∷ [])
-    (arrives lacking holding both-entries (append-answer 3 2 2 1 2 ∷ []) refl (omega arith) refl)
+to-accepted = gets 3 refl all-entries (List·Memᴰ·head refl) holding (append-answer 3 2 2 1 4 ∷ []) refl (omega arith) refl
 
 -- and box 2 commits them.
 abbrev commits-both : State
-commits-both = settle (heard steps-back 3 1 2)
+commits-both = settle (heard at-start 3 1 4)
 
 abbrev pub written : Park
 written = after accepted 2 commits-both []
 
 to-written : Move 7 accepted written
 unfolding opens
-to-written =
-    steps 2 refl (receives (text (append-answer 3 2 2 1 2))) (List·Memᴰ·head refl) commits-both []
-    (arrives steps-back commits-both (append-answer 3 2 2 1 2) [] refl (omega arith) refl)
+to-written = gets 2 refl (append-answer 3 2 2 1 4) (List·Memᴰ·head refl) commits-both [] refl (omega arith) refl
 
 -- the run in which it does
 pub two-terms-run : Run 7 two-leads written
-two-terms-run = moves (moves (moves (moves (moves stays to-offered) to-declined) to-resent) to-accepted) to-written
+two-terms-run = moves (moves (moves (moves (moves (moves stays to-offered) to-declined) to-resent) to-all-sent) to-accepted) to-written
 
 -- **Two leaders' commits, one behind the other,** and box 1 leads term 1 with the first alone.
-pub two-terms : (handed-out (written .box 2) ≡ entry ∷ later-entry ∷ []) × Leads (written .box 1) 1 × (written .box 1 .log ≡ entry ∷ [])
+pub two-terms : (handed-out (written .box 2) ≡ pages) × Leads (written .box 1) 1 × (written .box 1 .log ≡ page)
 unfolding opens
 two-terms = (refl, record { role = refl; in-term = refl }, refl)
 
@@ -108,8 +114,9 @@ two-terms = (refl, record { role = refl; in-term = refl }, refl)
 
 -- To open this is to open every run and its book.
 opens-book : Unit {0}
-unfolding opens first-reached second-reached third-reached to-fourth to-fifth to-sixth commit-run to-two-asks to-three-votes to-two-leads
-    succeed-run to-offered to-declined to-resent to-accepted to-written two-terms-run run-both moves-of moved book below writes by-leader longer
+unfolding opens gets first-reached second-reached third-reached to-fourth to-fifth to-sixth commit-run to-two-asks to-three-votes to-two-leads
+    succeed-run to-offered to-declined to-resent to-all-sent to-accepted to-written two-terms-run run-both moves-of moved book below writes by-leader
+    longer
 opens-book = tt
 
 -- The runs: a leader, it commits, another commits.
@@ -119,8 +126,8 @@ once = run-both third-reached commit-run
 abbrev pub twice : Reached 7 written
 twice = run-both (run-both once succeed-run) two-terms-run
 
--- **The book grows:** it is empty, then the first leader's order, then the second's behind it.
-pub book-shown : (book (moves-of third-reached) ≡ []) × (book (moves-of once) ≡ entry ∷ []) × (book (moves-of twice) ≡ entry ∷ later-entry ∷ [])
+-- **The book grows:** it is empty, then the first leader's blank and order, then the second's behind them.
+pub book-shown : (book (moves-of third-reached) ≡ []) × (book (moves-of once) ≡ page) × (book (moves-of twice) ≡ pages)
 unfolding opens-book
 book-shown = (refl, refl, refl)
 
@@ -131,12 +138,12 @@ pub own-term-book-not-held : ((p q : Park) (r : Reached 7 p) (u : Run 7 p q) (i 
     → Begins (book (below (suc t) (moves-of (run-both r u)))) (p .box i .log)) → ⊥
 unfolding opens-book
 own-term-book-not-held claim =
-    let b : Begins (entry ∷ []) [] = claim third sixth third-reached commit-run 1 1 (record { role = refl; in-term = refl }) in
+    let b : Begins page (blank-of 1 ∷ []) = claim third sixth third-reached commit-run 1 1 (record { role = refl; in-term = refl }) in
     omega (arith, begins-long b)
 
 -- **Nor does it hold what leaders of higher terms wrote:** Demand3's `holds-book` of the whole book is false.
 pub whole-book-not-held : ((p q : Park) (r : Reached 7 p) → Run 7 p q → (j t : ℕ) → Leads (q .box j) t → Begins (book (moves-of r)) (q .box j .log)) → ⊥
 unfolding opens-book
 whole-book-not-held claim =
-    let b : Begins (entry ∷ later-entry ∷ []) (entry ∷ []) = claim written written twice stays 1 1 (record { role = refl; in-term = refl }) in
+    let b : Begins pages page = claim written written twice stays 1 1 (record { role = refl; in-term = refl }) in
     omega (arith, begins-long b)
