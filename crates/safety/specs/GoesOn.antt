@@ -1,29 +1,28 @@
 -- A new leader does not sit on old orders (02, T-01): at every moment of every run, a leader whose last index a majority matches hands out all of its log, of
 -- whatever terms its entries are, but where it won with a full log. For its last entry is of its own term: the blank, or an order behind it. (Before T-01
 -- that was not so: `CommitsOlder`. Nor is it of who won with a full log and has no entry of its term: `stands-still`.) Assumes nothing.
-use Prim.Native.Nat.{ℕ, suc, _≤_, _<_}
+use Prim.Native.Nat.{ℕ, _≤_, _<_}
 use native.Mathlib.Decide.{decLe}
 use native.Mathlib.Nat.{le-antisymm}
 use native.Mathlib.Omega.{arith}
-use mathlib.Core.Path.{_≡_, refl, sym, ap, _∙_}
+use mathlib.Core.Path.{_≡_, refl, sym, _∙_}
 use mathlib.Core.Bool.{Bool, true, _&&_}
 use mathlib.Core.List.{List, [], _∷_, _++_}
-use lib.Dec.{eqb, leb}
+use lib.Dec.{eqb}
 use lib.ListN.{length, length-append}
-use lib.Seq.{getD-append-seam, take-all}
-use borrow.Author.Tests.{eqb-true, eq-eqb, leb-true, le-ltb}
+use lib.Seq.{take-all}
+use borrow.Author.Tests.{eqb-true, eq-eqb, le-ltb}
 use Rattle.digits.specs.Tests.{and-left, and-both}
 use Rattle.frames.specs.declared.Entry.{Entry}
 use Rattle.frames.specs.Limits.{log-limit}
-use Rattle.frames.specs.Fields.{no-entry}
 use Rattle.frames.specs.Message.{Message, append-answer}
 use Rattle.frames.specs.Reading.{frame, reading}
 use Rattle.raft.specs.Record.{State, leader, fresh, last-index, last-term, term-at, is-other, handed-out}
 use Rattle.raft.specs.Commit.{matches, matching, is-matched, settled, settle}
-use Rattle.raft.specs.CommitLaws.{by-test, Highest, is-highest}
+use Rattle.raft.specs.CommitLaws.{term-new, Highest, is-highest}
 use Rattle.raft.specs.Timeout.{standing}
-use Rattle.raft.specs.Order.{is-full, ordered}
-use Rattle.raft.specs.Winning.{leading, with-blank, winner}
+use Rattle.raft.specs.Order.{ordered}
+use Rattle.raft.specs.Winning.{leading, winner}
 use Rattle.raft.specs.AnyMessage.{taking, taken}
 use Rattle.raft.specs.VoteRequest.{voting}
 use Rattle.raft.specs.VoteAnswer.{adding}
@@ -31,6 +30,7 @@ use Rattle.raft.specs.Append.{following, joining}
 use Rattle.raft.specs.AppendAnswer.{heard, answered, hear, on-append-answer}
 use Rattle.raft.specs.Receive.{sender, receiver, term-of, current, deliver, is-for, arrive, arrive-read, receive}
 use Rattle.raft.specs.Event.{receives, step}
+use Rattle.raft.specs.StepLaws.{winner-full, winner-room}
 use Rattle.raft.specs.ReceiveLaws.{taken-by, taken-same, settled-heard}
 use Rattle.journal.specs.Opening.{restarted}
 use Rattle.history.specs.PutLaws.{put-all}
@@ -86,17 +86,16 @@ pub record Abreast (s : State) : Type 0 where
 
 -- An entry added is the last,
 added-last : (log : List Entry) (e : Entry) → term-at (log ++ (e ∷ [])) (length (log ++ (e ∷ []))) ≡ e .term
-unfolding term-at
-added-last log e =
-    let long : length (log ++ (e ∷ [])) ≡ suc (length log) = rw (length-append log (e ∷ [])) (omega arith) in
-    rw long (ap (λ x. x .term) (getD-append-seam log e [] no-entry))
+added-last log e = term-new log e (length (log ++ (e ∷ []))) (length-append log (e ∷ []))
 
 -- so that of a box that wins, where there is room behind it still, is of its term.
 winner-own : (s : State) → last-index (winner s) < log-limit → last-term (winner s) ≡ winner s .term
-unfolding winner with-blank is-full leading ordered
-winner-own s =
-    by-test (λ w. last-index w < log-limit → last-term w ≡ w .term) (leb log-limit (last-index s)) _ _
-    (λ full room. absurd (omega (arith, leb-true log-limit (last-index s) full))) (λ e room. added-last (s .log) _)
+unfolding leading ordered
+winner-own s = go (decLe log-limit (last-index s))
+  where
+    go : Dec (log-limit ≤ last-index s) → last-index (winner s) < log-limit → last-term (winner s) ≡ winner s .term
+    go (yes full) = rw (winner-full s full) (λ room. absurd (omega arith))
+    go (no n) = rw (winner-room s (omega arith)) (λ room. added-last (s .log) _)
 
 -- A leader whose commit is settled is abreast,
 settle-abreast : (u : State) → (u .role ≡ leader → last-index u < log-limit → last-term u ≡ u .term) → Abreast (settle u)
