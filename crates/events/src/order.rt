@@ -1,27 +1,22 @@
 // "Order (leader). Entry with the current term, then an append to each other member."
 use changes::refuse;
-use finishing::finish_adding;
+use finishing::finish_one;
 use frames::Fields;
 use leader::adding;
-use leader::one_entry;
 use record::Decision;
 use record::Record;
 use record::Step;
 ghost use mathlib.Core.Path.{_≡_};
-ghost use mathlib.Core.List.{List, [], _∷_};
-ghost use Rattle.frames.specs.declared.Entry.{Entry};
-ghost use Rattle.frames.specs.Fields.{listed};
 ghost use Rattle.raft.specs.Order.{order};
 ghost use Rattle.raft.specs.Event.{step, takes-order};
 ghost use Rattle.record.specs.Calls.{state-of, Ready, Runs};
-ghost use Rattle.record.specs.Deciding.{Decides};
+ghost use Rattle.record.specs.Deciding.{one-entry, Decides};
 
 // 3, 13, 4, or the entry that is offered and the appends.
 fn decide(n: Record, o: u64, terms: &[u32], orders: &[u64]) -> Decision
     requires { ⌜ Ready n (now terms) (now orders) ⌝ }
-    ensures { λ r. ⌜ ((offered : List Entry) → listed offered 0 1 ≡ record { term = n .term; order = o } ∷ []
-        → Decides (n .last) r offered (now (terms .entry)) (now (orders .entry))
-        (order o (state-of n (now (terms .entry)) (now (orders .entry))))) ⌝ }
+    ensures { λ r. ⌜ Decides (n .last) r (one-entry (n .term) o) (now (terms .entry)) (now (orders .entry))
+        (order o (state-of n (now (terms .entry)) (now (orders .entry)))) ⌝ }
 {
     if n.role != Record::LEADER {
         return refuse(n, 3);
@@ -50,6 +45,5 @@ pub fn run_order(
         (now (terms .exit)) (now (orders .exit)) (now (journal .exit)) (now (messages .exit)) ⌝ }
 {
     let d = decide(n, o, &terms[..], &orders[..]);
-    let offered = one_entry(n.term, o);
-    finish_adding(n, d, offered, terms, orders, journal, messages)
+    finish_one(n, d, n.term, o, terms, orders, journal, messages)
 }

@@ -2,8 +2,7 @@
 use changes::refuse;
 use changes::standing;
 use changes::step;
-use finishing::finish_adding;
-use leader::one_entry;
+use finishing::finish_one;
 use leader::won;
 use record::Decision;
 use record::Record;
@@ -11,21 +10,17 @@ use record::Send;
 use record::Step;
 use rules::is_majority;
 ghost use mathlib.Core.Path.{_≡_};
-ghost use mathlib.Core.List.{List, [], _∷_};
-ghost use Rattle.frames.specs.declared.Entry.{Entry};
-ghost use Rattle.frames.specs.Fields.{listed};
 ghost use Rattle.raft.specs.Order.{blank};
 ghost use Rattle.raft.specs.Timeout.{timeout};
 ghost use Rattle.raft.specs.Event.{step, times-out};
 ghost use Rattle.record.specs.Calls.{state-of, Ready, Runs};
-ghost use Rattle.record.specs.Deciding.{Decides};
+ghost use Rattle.record.specs.Deciding.{one-entry, Decides};
 
 // 9, or a candidate's vote requests, or "A majority already (one member): it leads at once."
 fn decide(n: Record, terms: &[u32], orders: &[u64]) -> Decision
     requires { ⌜ Ready n (now terms) (now orders) ⌝ }
-    ensures { λ r. ⌜ ((offered : List Entry) → listed offered 0 1 ≡ record { term = r .next .term; order = blank } ∷ []
-        → Decides (n .last) r offered (now (terms .entry)) (now (orders .entry))
-        (timeout (state-of n (now (terms .entry)) (now (orders .entry))))) ⌝ }
+    ensures { λ r. ⌜ Decides (n .last) r (one-entry (r .next .term) blank) (now (terms .entry)) (now (orders .entry))
+        (timeout (state-of n (now (terms .entry)) (now (orders .entry)))) ⌝ }
 {
     if n.role == Record::LEADER {
         return step(n, Send::Nothing);
@@ -55,6 +50,14 @@ pub fn run_timeout(
 {
     let d = decide(n, &terms[..], &orders[..]);
     let next = d.next;
-    let offered = one_entry(next.term, Record::BLANK);
-    finish_adding(n, d, offered, terms, orders, journal, messages)
+    finish_one(
+        n,
+        d,
+        next.term,
+        Record::BLANK,
+        terms,
+        orders,
+        journal,
+        messages,
+    )
 }

@@ -20,7 +20,7 @@ ghost use Rattle.raft.specs.Sends.{texts};
 ghost use Rattle.record.specs.declared.Decision.{Decision};
 ghost use Rattle.record.specs.declared.Record.{Record};
 ghost use Rattle.record.specs.Calls.{state-of, Runs};
-ghost use Rattle.record.specs.Deciding.{messages-of, Aimed, decided, Sound, AddsNone};
+ghost use Rattle.record.specs.Deciding.{messages-of, one-entry, Aimed, decided, Sound, AddsNone};
 ghost use Rattle.record.specs.Sizes.{is-silent, line-bytes, line-size, sent-size, roomy, measured, Measurable, MayFit, MessagesFit};
 
 // Nothing happens: 01's number, and the record as it was.
@@ -209,4 +209,33 @@ pub fn finish_adding(
         line: known.line,
         sent: known.sent,
     }
+}
+
+// A step that may add one entry: a client's order, or a new leader's blank.
+pub fn finish_one(
+    n: Record,
+    d: Decision,
+    term: u32,
+    order: u64,
+    terms: &mut [u32],
+    orders: &mut [u64],
+    journal: &mut [u8],
+    messages: &mut [u8],
+) -> Step
+    requires { ⌜ Sound n d (one-entry term order) (now terms) (now orders) ⌝ }
+    ensures { λ r. ⌜ Runs (decided d (one-entry term order) (now (terms .entry)) (now (orders .entry))) n
+        (now (terms .entry)) (now (orders .entry)) (now (journal .entry)) (now (messages .entry)) r
+        (now (terms .exit)) (now (orders .exit)) (now (journal .exit)) (now (messages .exit)) ⌝ }
+{
+    let none = Entry { term: 0, order: 0 };
+    let new = Entry { term, order };
+    finish_adding(
+        n,
+        d,
+        [new, none, none, none],
+        terms,
+        orders,
+        journal,
+        messages,
+    )
 }

@@ -15,8 +15,8 @@ use Rattle.record.specs.declared.Record.{Record}
 use Rattle.record.specs.declared.Send.{Send}
 use Rattle.record.specs.declared.Decision.{Decision}
 use Rattle.record.specs.Calls.{state-of, Ready}
-use Rattle.record.specs.Deciding.{messages-of, Aimed, Decides, Becomes}
-use Rattle.record.specs.DecidingLaws.{plain, changed-decides, decides-at, becomes-lent, becomes-ready}
+use Rattle.record.specs.Deciding.{messages-of, one-entry, Aimed, Decides, Becomes}
+use Rattle.record.specs.DecidingLaws.{plain, changed-decides, decides-at, decides-term, becomes-lent, becomes-ready}
 use Rattle.record.specs.GoodLaws.{ready-good, ready-last}
 use Rattle.leader.specs.Required.{MayLead}
 
@@ -43,9 +43,10 @@ module _ {b first : Record} {terms orders : List ℕ} (k : Becomes b first leadi
       (rw (e, becomes-lent k terms orders) (rw (winner-full (state-of b terms orders) (rw (length-entries-of terms orders 0 (b .last)) l))))
 
   -- where there is room, what is decided for the blank's entry is decided for winning.
-  pub blank-decides : b .last < log-limit → {d : Decision} {offered : List Entry}
-      → Decides (first .last) d offered terms orders (led (ordered (state-of first terms orders) blank))
-      → Decides (b .last) d offered terms orders (won (state-of b terms orders))
+  pub blank-decides : b .last < log-limit → {d : Decision}
+      → Decides (first .last) d (one-entry (first .term) blank) terms orders (led (ordered (state-of first terms orders) blank))
+      → Decides (b .last) d (one-entry (b .term) blank) terms orders (won (state-of b terms orders))
   unfolding won
   blank-decides l h =
-      decides-at (k .last) (rw (becomes-lent k terms orders) (rw (winner-room (state-of b terms orders) (rw (length-entries-of terms orders 0 (b .last)) l)))) h
+      decides-term blank first-term
+      (decides-at (k .last) (rw (becomes-lent k terms orders) (rw (winner-room (state-of b terms orders) (rw (length-entries-of terms orders 0 (b .last)) l)))) h)

@@ -6,6 +6,5 @@ mod winning;
 
 pub use commit::settled;
 pub use entries::adding;
-pub use entries::one_entry;
 pub use progress::heard;
 pub use winning::won;

@@ -9,15 +9,12 @@ use record::Record;
 use record::Send;
 use rules::is_other;
 ghost use mathlib.Core.Path.{_≡_};
-ghost use mathlib.Core.List.{List, [], _∷_};
 ghost use Prim.Native.Nat.{_≤_};
-ghost use Rattle.frames.specs.declared.Entry.{Entry};
-ghost use Rattle.frames.specs.Fields.{listed};
 ghost use Rattle.frames.specs.Limits.{log-limit};
 ghost use Rattle.raft.specs.Order.{blank};
 ghost use Rattle.raft.specs.Winning.{leading, won};
 ghost use Rattle.record.specs.Calls.{state-of};
-ghost use Rattle.record.specs.Deciding.{Becomes, Decides};
+ghost use Rattle.record.specs.Deciding.{one-entry, Becomes, Decides};
 ghost use Rattle.record.specs.ChangeLaws.{next-of};
 ghost use Rattle.changes.specs.Required.{AtBox};
 ghost use Rattle.leader.specs.Required.{MayLead};
@@ -56,11 +53,11 @@ fn leading(n: Record) -> Record
     r
 }
 
-// The blank is the first of the offered entries; with a full log there is none.
+// The blank is the entry that is offered; a full log does not take it.
 pub fn won(n: Record, terms: &[u32], orders: &[u64]) -> Decision
     requires { ⌜ MayLead n (now terms) (now orders) ⌝ }
-    ensures { λ r. ⌜ ((offered : List Entry) → listed offered 0 1 ≡ record { term = n .term; order = blank } ∷ []
-        → Decides (n .last) r offered (now (terms .entry)) (now (orders .entry)) (won (state-of n (now (terms .entry)) (now (orders .entry))))) ⌝ }
+    ensures { λ r. ⌜ Decides (n .last) r (one-entry (n .term) blank) (now (terms .entry)) (now (orders .entry))
+        (won (state-of n (now (terms .entry)) (now (orders .entry)))) ⌝ }
     ensures { λ r. ⌜ r .next .term ≡ n .term ⌝ }
 {
     let first = leading(n);

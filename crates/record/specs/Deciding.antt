@@ -6,7 +6,7 @@ use mathlib.Core.List.{List, [], _∷_, _++_}
 use lib.Dec.{eqb}
 use lib.ListN.{length}
 use Rattle.frames.specs.declared.Entry.{Entry}
-use Rattle.frames.specs.Fields.{listed}
+use Rattle.frames.specs.Fields.{no-entry, listed}
 use Rattle.frames.specs.Limits.{IsBox, log-limit, entry-limit}
 use Rattle.frames.specs.Message.{Message, vote-answer, append-answer}
 use Rattle.record.specs.declared.Record.{Record}
@@ -27,6 +27,10 @@ messages-of Send.Appends t = appends t
 messages-of (Send.Append to) t = append-to t to ∷ []
 messages-of (Send.VoteAnswer to reply) t = vote-answer (t .me) to (t .term) reply ∷ []
 messages-of (Send.AppendAnswer to reply index) t = append-answer (t .me) to (t .term) reply index ∷ []
+
+-- What is offered may be one entry, in the first of four places: a client's order, or a new leader's blank.
+unfoldable pub one-entry : (term order : ℕ) → List Entry
+one-entry term order = record { term = term; order = order } ∷ no-entry ∷ no-entry ∷ no-entry ∷ []
 
 -- The next record's log: the entries that are kept, and behind them those of the offered ones that are new.
 abbrev pub new-of : Decision → List Entry → List Entry

@@ -22,7 +22,7 @@ use Rattle.raft.specs.Event.{Event, step}
 use Rattle.raft.specs.EventLaws.{step-good}
 use Rattle.raft.specs.LentLaws.{length-entries-of}
 use Rattle.record.specs.Calls.{entries-of, with-entries, state-of, run, Ready}
-use Rattle.record.specs.Deciding.{messages-of, log-after, after, decided, Aimed, Decides, Sound, Becomes}
+use Rattle.record.specs.Deciding.{messages-of, one-entry, log-after, after, decided, Aimed, Decides, Sound, Becomes}
 use Rattle.record.specs.GoodLaws.{ready-last}
 
 -- ---- a step that leaves the log alone
@@ -103,11 +103,16 @@ decides-as k e =
       aimed = k .aimed;
     }
 
--- and so where the box's log is as long
+-- and so where the box's log is as long,
 pub decides-at : {last last' : ℕ} {d : Decision} {offered : List Entry} {terms orders : List ℕ} {o o' : Outcome} → last ≡ last' → o ≡ o'
     → Decides last d offered terms orders o → Decides last' d offered terms orders o'
 decides-at {last} {last'} {d} {offered} {terms} {orders} {o} {o'} l e k =
     subst (λ (n : ℕ). Decides n d offered terms orders o') l (decides-as k e)
+
+-- or the term of the entry that is offered is the same.
+pub decides-term : (order : ℕ) {last term term' : ℕ} {d : Decision} {terms orders : List ℕ} {o : Outcome} → term ≡ term'
+    → Decides last d (one-entry term order) terms orders o → Decides last d (one-entry term' order) terms orders o
+decides-term order {last} {term} {term'} {d} {terms} {orders} {o} e k = subst (λ (t : ℕ). Decides last d (one-entry t order) terms orders o) e k
 
 -- ---- finishing
 
@@ -149,21 +154,20 @@ becomes-ready {terms} {orders} k r g =
 -- ---- an order
 
 -- A leader with one entry more, which was offered.
-pub order-decides : (b next : Record) (offered : List Entry) (terms orders : List ℕ) (new : Entry) {o : Outcome} → b .last < log-limit
-    → next .last ≡ b .last + 1 → listed offered 0 1 ≡ new ∷ []
-    → done (with-entries next (entries-of terms orders 0 (b .last) ++ (new ∷ [])))
-    (appends (with-entries next (entries-of terms orders 0 (b .last) ++ (new ∷ [])))) ≡ o
-    → Decides (b .last) (record { refusal = 0; next = next; kept = b .last; first = 0; count = 1; send = Send.Appends }) offered terms orders o
-unfolding decided messages-of Aimed
-order-decides b next offered terms orders new l e f g =
+pub order-decides : (b next : Record) (terms orders : List ℕ) (term order : ℕ) {o : Outcome} → b .last < log-limit → next .last ≡ b .last + 1
+    → done (with-entries next (entries-of terms orders 0 (b .last) ++ (record { term = term; order = order } ∷ [])))
+    (appends (with-entries next (entries-of terms orders 0 (b .last) ++ (record { term = term; order = order } ∷ [])))) ≡ o
+    → Decides (b .last) (record { refusal = 0; next = next; kept = b .last; first = 0; count = 1; send = Send.Appends }) (one-entry term order) terms orders o
+unfolding decided messages-of Aimed one-entry listed
+order-decides b next terms orders term order l e g =
     record {
-      comes = rw f g;
+      comes = g;
       low = omega arith;
       part = omega arith;
       few = omega arith;
       there = omega arith;
       sum = e;
       room = omega arith;
-      told = rw f (kept-more (entries-of terms orders 0 (b .last)) (new ∷ []) ∙ length-entries-of terms orders 0 (b .last));
+      told = kept-more (entries-of terms orders 0 (b .last)) (record { term = term; order = order } ∷ []) ∙ length-entries-of terms orders 0 (b .last);
       aimed = tt;
     }

@@ -17,7 +17,7 @@ unfolding order
 returns c =
     let unled = c .before .if1 .taken in
     let entered = c .before .before .before .before .before in
-    λ offered f. rw (c .refuse .ensures) (refuse-decides (entered .args .n) offered (entered .args .terms .now) (entered .args .orders .now) 3 (ready-last (entered .pre))
+    rw (c .refuse .ensures) (refuse-decides (entered .args .n) _ (entered .args .terms .now) (entered .args .orders .now) 3 (ready-last (entered .pre))
     (omega arith) (rw (ne-eqb _ _ unled)))
 
 refuse-requires-2 : tie.Need-refuse-requires-2
@@ -29,7 +29,7 @@ returns-2 c =
     let zeros = c .before .if2 .taken in
     let leads = c .before .before .if1 .left in
     let entered = c .before .before .before .before .before .before in
-    λ offered f. rw (c .refuse2 .ensures) (refuse-decides (entered .args .n) offered (entered .args .terms .now) (entered .args .orders .now) 13 (ready-last (entered .pre))
+    rw (c .refuse2 .ensures) (refuse-decides (entered .args .n) _ (entered .args .terms .now) (entered .args .orders .now) 13 (ready-last (entered .pre))
     (omega arith) (rw (eq-eqb _ _ leads, eq-eqb _ _ zeros)))
 
 refuse-requires-3 : tie.Need-refuse-requires-3
@@ -42,7 +42,7 @@ returns-3 c =
     let some = c .before .before .before .if2 .left in
     let leads = c .before .before .before .before .if1 .left in
     let entered = c .before .before .before .before .before .before .before .before in
-    λ offered f. rw (c .refuse3 .ensures) (refuse-decides (entered .args .n) offered (entered .args .terms .now) (entered .args .orders .now) 4 (ready-last (entered .pre))
+    rw (c .refuse3 .ensures) (refuse-decides (entered .args .n) _ (entered .args .terms .now) (entered .args .orders .now) 4 (ready-last (entered .pre))
     (omega arith)
     (rw (eq-eqb _ _ leads, ne-eqb _ _ some, length-entries-of (entered .args .terms .now) (entered .args .orders .now) 0 (entered .args .n .last), le-leb _ _ full)))
 
@@ -56,7 +56,7 @@ returns-4 c =
     let some = c .before .before .before .if2 .left in
     let leads = c .before .before .before .before .if1 .left in
     let entered = c .before .before .before .before .before .before .before .before in
-    λ offered f. decides-as (c .adding .ensures .0 (entered .args .o) offered f)
+    decides-as (c .adding .ensures .0 (entered .args .o))
     (rw (eq-eqb _ _ leads, ne-eqb _ _ some, length-entries-of (entered .args .terms .now) (entered .args .orders .now) 0 (entered .args .n .last), lt-leb _ _ room))
 
 pub decide-spec : {M : Type 1} → statement M

@@ -4,12 +4,13 @@ use native.Mathlib.Omega.{arith}
 use mathlib.Core.Path.{sym, ap, _∙_}
 use borrow.Author.Tests.{eq-eqb, ne-eqb}
 use Rattle.raft.specs.Record.{State}
+use Rattle.raft.specs.Order.{blank}
 use Rattle.raft.specs.StepLaws.{good-standing}
 use Rattle.raft.specs.Timeout.{standing, timeout}
 use Rattle.record.specs.declared.Send.{Send}
 use Rattle.record.specs.Deciding.{messages-of, Aimed}
 use Rattle.record.specs.GoodLaws.{ready-good, ready-box, ready-last}
-use Rattle.record.specs.DecidingLaws.{plain-decides, changed-decides, refuse-decides, decides-at, becomes-lent, becomes-ready}
+use Rattle.record.specs.DecidingLaws.{plain-decides, changed-decides, refuse-decides, decides-at, decides-term, becomes-lent, becomes-ready}
 use Rattle.events.proofs.timeout.decide.Statement.{statement}
 use Rattle.events.proofs.timeout.decide.Tie as tie
 
@@ -20,8 +21,8 @@ returns : tie.Need-returns
 unfolding timeout messages-of Aimed
 returns c =
     let entered = c .before .before .before .before .before in
-    λ offered f. rw (c .step .ensures)
-    (plain-decides (entered .args .n) offered (entered .args .terms .now) (entered .args .orders .now) Send.Nothing (ready-last (entered .pre)) tt
+    rw (c .step .ensures)
+    (plain-decides (entered .args .n) _ (entered .args .terms .now) (entered .args .orders .now) Send.Nothing (ready-last (entered .pre)) tt
     (rw (eq-eqb _ _ (c .before .if1 .taken))))
 
 refuse-requires : tie.Need-refuse-requires
@@ -32,8 +33,8 @@ unfolding timeout
 returns-2 c =
     let at-if1 = c .before .before .before in
     let entered = at-if1 .before .before .before .before in
-    λ offered f. rw (c .refuse .ensures)
-    (refuse-decides (entered .args .n) offered (entered .args .terms .now) (entered .args .orders .now) 9 (ready-last (entered .pre)) (omega arith)
+    rw (c .refuse .ensures)
+    (refuse-decides (entered .args .n) _ (entered .args .terms .now) (entered .args .orders .now) 9 (ready-last (entered .pre)) (omega arith)
     (rw (ne-eqb _ _ (at-if1 .if1 .left), eq-eqb _ _ (c .before .if2 .taken))))
 
 standing-requires : tie.Need-standing-requires
@@ -72,9 +73,9 @@ returns-3 c =
     let entered = at-if1 .before .before .before .before in
     let stands = becomes-lent (at-standing .standing .ensures) (entered .args .terms .now) (entered .args .orders .now) in
     let most = sym (at-is-majority .is-majority .ensures) ∙ c .before .if3 .taken in
-    λ offered f. decides-at (at-standing .standing .ensures .last)
+    decides-term blank (sym (c .won .ensures .1)) (decides-at (at-standing .standing .ensures .last)
     (rw (stands, ne-eqb _ _ (at-if1 .if1 .left), ne-eqb _ _ (at-if2 .if2 .left), ← at-bit .bit .ensures, most))
-    (c .won .ensures .0 offered (rw (← c .won .ensures .1) f))
+    (c .won .ensures .0))
 
 step-requires-2 : tie.Need-step-requires-2
 step-requires-2 c κs = search needs
@@ -90,8 +91,8 @@ returns-4 c =
     let entered = at-if1 .before .before .before .before in
     let stands = becomes-lent (at-standing .standing .ensures) (entered .args .terms .now) (entered .args .orders .now) in
     let few = sym (at-is-majority .is-majority .ensures) ∙ c .before .if3 .left in
-    λ offered f. rw (c .step2 .ensures)
-    (changed-decides (entered .args .n) _ offered (entered .args .terms .now) (entered .args .orders .now) Send.Requests (at-standing .standing .ensures .last)
+    rw (c .step2 .ensures)
+    (changed-decides (entered .args .n) _ _ (entered .args .terms .now) (entered .args .orders .now) Send.Requests (at-standing .standing .ensures .last)
     (ready-last (entered .pre)) tt (rw (stands, ne-eqb _ _ (at-if1 .if1 .left), ne-eqb _ _ (at-if2 .if2 .left), ← at-bit .bit .ensures, few)))
 
 pub decide-spec : {M : Type 1} → statement M

@@ -9,16 +9,12 @@ use Rattle.events.proofs.timeout.run_timeout.Tie as tie
 decide-requires : tie.Need-decide-requires
 decide-requires c κs = search needs
 
-one-entry-requires : tie.Need-one-entry-requires
-one-entry-requires c κs = search needs
-
-finish-adding-requires : tie.Need-finish-adding-requires
+finish-one-requires : tie.Need-finish-one-requires
 unfolding step
-finish-adding-requires c κs =
-    let at-one-entry = c .before .before .before .before in
-    let at-decide = at-one-entry .before .before in
+finish-one-requires c κs =
+    let at-decide = c .before .before .before .before .before in
     let entered = at-decide .before .before .before .before .before .before .before in
-    sound times-out (entered .pre) (at-decide .decide .ensures _ (at-one-entry .one-entry .ensures))
+    sound times-out (entered .pre) (at-decide .decide .ensures)
 
 same-length : tie.Need-same-length
 same-length c = search needs
@@ -35,20 +31,17 @@ same-length-4 c = search needs
 returns : tie.Need-returns
 unfolding step
 returns c =
-    let at-finish-adding = c .before .before .before .before .before .before .before .before in
-    let at-one-entry = at-finish-adding .before .before .before .before .before in
-    let at-decide = at-one-entry .before .before in
+    let at-finish-one = c .before .before .before .before .before .before .before .before in
+    let at-decide = at-finish-one .before .before .before .before .before .before in
     let entered = at-decide .before .before .before .before .before .before .before in
-    at-finish-adding .finish-adding .ensures ∙ finished times-out (entered .pre)
-    (at-decide .decide .ensures _ (at-one-entry .one-entry .ensures)) (entered .args .journal .now) (entered .args .messages .now)
+    at-finish-one .finish-one .ensures ∙ finished times-out (entered .pre) (at-decide .decide .ensures) (entered .args .journal .now) (entered .args .messages .now)
 
 pub run-timeout-spec : {M : Type 1} → statement M
 run-timeout-spec =
     tie.close
     (tie.spec
     decide-requires
-    one-entry-requires
-    finish-adding-requires
+    finish-one-requires
     same-length
     same-length-2
     same-length-3

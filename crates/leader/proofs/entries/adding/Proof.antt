@@ -15,8 +15,8 @@ returns : tie.Need-returns
 unfolding settle ordered
 returns c =
     let entered = c .before .before .before in (
-      λ o offered f. order-decides (entered .args .n) _ offered (entered .args .terms .now) (entered .args .orders .now) _ (entered .pre .room)
-          (c .ordered .ensures .1) f (rw (c .ordered .ensures .0 o)),
+      λ o. order-decides (entered .args .n) _ (entered .args .terms .now) (entered .args .orders .now) _ o (entered .pre .room) (c .ordered .ensures .1)
+          (rw (c .ordered .ensures .0 o)),
       ap (λ (s : State). s .term) (c .ordered .ensures .0 0),
     )
 

@@ -30,7 +30,7 @@ returns c =
     let settled = c .before .settled .ensures in
     let first = c .before .before .before .before .leading .ensures in
     let entered = c .before .before .before .before .before .before .before in (
-      λ offered f. rw (c .step .ensures) (full-decides first (entered .pre) (c .before .before .if1 .taken) _ (settled .0) (settled .1) offered),
+      rw (c .step .ensures) (full-decides first (entered .pre) (c .before .before .if1 .taken) _ (settled .0) (settled .1) _),
       rw (c .step .ensures) (ap (λ (s : State). s .term) (settled .0) ∙ first-term first (entered .pre)),
     )
 
@@ -48,7 +48,7 @@ returns-2 : tie.Need-returns-2
 returns-2 c =
     let first = c .before .before .before .leading .ensures in
     let entered = c .before .before .before .before .before .before in (
-      λ offered f. blank-decides first (entered .pre) (c .before .if1 .left) (c .adding .ensures .0 blank offered (rw (first-term first (entered .pre)) f)),
+      blank-decides first (entered .pre) (c .before .if1 .left) (c .adding .ensures .0 blank),
       c .adding .ensures .1 ∙ first-term first (entered .pre),
     )
 
