@@ -1,17 +1,19 @@
 -- What the deciders of the messages require of their callers, by name. Assumes nothing.
 use Prim.Native.Nat.{ℕ, _+_, _≤_}
 use mathlib.Core.Path.{_≡_}
-use mathlib.Core.Bool.{true}
-use mathlib.Core.List.{List, [], _∷_}
+use mathlib.Core.Bool.{true, cond}
+use mathlib.Core.List.{List}
+use lib.Dec.{eqb}
 use lib.ListN.{length}
+use borrow.Author.Tests.{eq-eqb, ne-eqb}
 use Rattle.frames.specs.declared.Entry.{Entry}
 use Rattle.frames.specs.declared.Fields.{Fields}
-use Rattle.frames.specs.Fields.{listed, one-frame}
+use Rattle.frames.specs.Fields.{one-frame}
 use Rattle.frames.specs.Limits.{log-limit, entry-limit}
 use Rattle.raft.specs.Order.{blank}
 use Rattle.record.specs.declared.Record.{Record}
 use Rattle.record.specs.Calls.{Ready}
-use Rattle.record.specs.Deciding.{OtherBox}
+use Rattle.record.specs.Deciding.{one-entry, OtherBox}
 
 -- The log's terms are lent whole.
 pub record Lent (b : Record) (terms : List ℕ) : Type 0 where
@@ -49,7 +51,15 @@ pub record InTerm (b : Record) (f : Fields) (terms orders : List ℕ) : Type 0 w
   pub delivered : Delivered b f terms orders
   pub same : b .term ≡ f .term
 
--- The entries that a message may add: an append's own, and a vote answer's the blank of its term, for the box that it makes a leader.
-pub record Brings (f : Fields) (offered : List Entry) : Type 0 where
-  pub appended : f .kind ≡ 3 → offered ≡ f .entries
-  pub elected : f .kind ≡ 2 → listed offered 0 1 ≡ record { term = f .term; order = blank } ∷ []
+-- The entries that a message may add: a vote answer's is the blank of its term, for the box that it makes a leader; an append's are its own.
+unfoldable pub brought : Fields → List Entry
+brought f = cond (eqb (f .kind) 2) (one-entry (f .term) blank) (f .entries)
+
+-- What each kind brings.
+pub brings-blank : (f : Fields) → f .kind ≡ 2 → brought f ≡ one-entry (f .term) blank
+unfolding brought
+brings-blank f k = rw (eq-eqb (f .kind) 2 k)
+
+pub brings-own : (f : Fields) → (f .kind ≡ 2 → ⊥) → brought f ≡ f .entries
+unfolding brought
+brings-own f k = rw (ne-eqb (f .kind) 2 k)

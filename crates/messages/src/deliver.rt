@@ -19,7 +19,7 @@ ghost use Rattle.frames.specs.Limits.{IsBox, log-limit};
 ghost use Rattle.raft.specs.Receive.{is-for, stale, current, deliver, arrive};
 ghost use Rattle.record.specs.Calls.{state-of};
 ghost use Rattle.record.specs.Deciding.{Decides};
-ghost use Rattle.messages.specs.Required.{Read, Delivered, InTerm, Brings};
+ghost use Rattle.messages.specs.Required.{Read, Delivered, InTerm, brought};
 
 // "A lower term: a request gets a no with the box's own term; an answer does nothing."
 fn stale(n: Record, f: Fields) -> Decision
@@ -47,8 +47,8 @@ fn stale(n: Record, f: Fields) -> Decision
 // Its kind, at a box that is in the message's term.
 fn current(t: Record, f: Fields, terms: &[u32], orders: &[u64]) -> Decision
     requires { ⌜ InTerm t f (now terms) (now orders) ⌝ }
-    ensures { λ r. ⌜ ((offered : List Entry) → Brings f offered → Decides (t .last) r offered (now (terms .entry)) (now (orders .entry))
-        (current (message-of f) (state-of t (now (terms .entry)) (now (orders .entry))))) ⌝ }
+    ensures { λ r. ⌜ Decides (t .last) r (brought f) (now (terms .entry)) (now (orders .entry))
+        (current (message-of f) (state-of t (now (terms .entry)) (now (orders .entry)))) ⌝ }
 {
     let kind = f.kind;
     if kind == Fields::VOTE_REQUEST {
@@ -76,8 +76,8 @@ fn current(t: Record, f: Fields, terms: &[u32], orders: &[u64]) -> Decision
 // "with a higher term: take that term, .., then go on as below."
 fn deliver(n: Record, f: Fields, terms: &[u32], orders: &[u64]) -> Decision
     requires { ⌜ Delivered n f (now terms) (now orders) ⌝ }
-    ensures { λ r. ⌜ ((offered : List Entry) → Brings f offered → Decides (n .last) r offered (now (terms .entry)) (now (orders .entry))
-        (deliver (message-of f) (state-of n (now (terms .entry)) (now (orders .entry))))) ⌝ }
+    ensures { λ r. ⌜ Decides (n .last) r (brought f) (now (terms .entry)) (now (orders .entry))
+        (deliver (message-of f) (state-of n (now (terms .entry)) (now (orders .entry)))) ⌝ }
 {
     if f.term < n.term {
         return stale(n, f);
@@ -96,8 +96,8 @@ fn is_for(n: Record, from: u8, to: u8) -> bool
 // 2, or what the message comes to.
 pub fn arrive(n: Record, f: Fields, terms: &[u32], orders: &[u64]) -> Decision
     requires { ⌜ Read n f (now terms) (now orders) ⌝ }
-    ensures { λ r. ⌜ ((offered : List Entry) → Brings f offered → Decides (n .last) r offered (now (terms .entry)) (now (orders .entry))
-        (arrive (message-of f) (state-of n (now (terms .entry)) (now (orders .entry))))) ⌝ }
+    ensures { λ r. ⌜ Decides (n .last) r (brought f) (now (terms .entry)) (now (orders .entry))
+        (arrive (message-of f) (state-of n (now (terms .entry)) (now (orders .entry)))) ⌝ }
 {
     if !is_for(n, f.from, f.to) {
         return refuse(n, 2);

@@ -1,28 +1,15 @@
 // Any bytes at a record that is known to be good.
 use crate::deliver::arrive;
 use finishing::finish_adding;
+use finishing::finish_one;
 use finishing::refused;
-use frames::Entry;
 use frames::Fields;
-use leader::one_entry;
 use record::Record;
 use record::Step;
-ghost use Rattle.messages.specs.Required.{Brings};
 ghost use Rattle.raft.specs.Event.{step, receives};
 ghost use Rattle.record.specs.Calls.{state-of, Ready, Runs};
 
-// The entries that the message may add.
-fn offered(f: Fields) -> [Entry; Record::ENTRIES]
-    ensures { λ r. ⌜ Brings f r ⌝ }
-{
-    if f.kind == Fields::VOTE_ANSWER {
-        return one_entry(f.term, Record::BLANK);
-    }
-    let entries = f.entries;
-    entries
-}
-
-// 1 where they are not one frame; 2 where it is not for this box; and then what its kind decides, finished.
+// 1 where they are not one frame; 2 where it is not for this box; and then what its kind decides, finished: a vote answer with the blank, should it win.
 pub fn run_bytes(
     n: Record,
     bytes: &[u8],
@@ -42,5 +29,18 @@ pub fn run_bytes(
     }
     let fields = parsed.fields;
     let d = arrive(n, fields, &terms[..], &orders[..]);
-    finish_adding(n, d, offered(fields), terms, orders, journal, messages)
+    if fields.kind == Fields::VOTE_ANSWER {
+        return finish_one(
+            n,
+            d,
+            fields.term,
+            Record::BLANK,
+            terms,
+            orders,
+            journal,
+            messages,
+        );
+    }
+    let offered = fields.entries;
+    finish_adding(n, d, offered, terms, orders, journal, messages)
 }

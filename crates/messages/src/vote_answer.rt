@@ -4,22 +4,17 @@ use leader::won;
 use record::Decision;
 use record::Record;
 use record::Send;
-ghost use mathlib.Core.Path.{_≡_};
-ghost use mathlib.Core.List.{List, [], _∷_};
-ghost use Rattle.frames.specs.declared.Entry.{Entry};
-ghost use Rattle.frames.specs.Fields.{listed};
 ghost use Rattle.raft.specs.Order.{blank};
 ghost use Rattle.raft.specs.VoteAnswer.{on-vote-answer};
 ghost use Rattle.record.specs.Calls.{state-of};
-ghost use Rattle.record.specs.Deciding.{Decides};
+ghost use Rattle.record.specs.Deciding.{one-entry, Decides};
 ghost use Rattle.messages.specs.Required.{From};
 
 // "At a candidate a yes adds the sender; a majority wins. Otherwise nothing." The blank is offered, should it win.
 pub fn vote_answer(t: Record, from: u8, reply: u8, terms: &[u32], orders: &[u64]) -> Decision
     requires { ⌜ From t from (now terms) (now orders) ⌝ }
-    ensures { λ r. ⌜ ((offered : List Entry) → listed offered 0 1 ≡ record { term = t .term; order = blank } ∷ []
-        → Decides (t .last) r offered (now (terms .entry)) (now (orders .entry))
-        (on-vote-answer (state-of t (now (terms .entry)) (now (orders .entry))) from reply)) ⌝ }
+    ensures { λ r. ⌜ Decides (t .last) r (one-entry (t .term) blank) (now (terms .entry)) (now (orders .entry))
+        (on-vote-answer (state-of t (now (terms .entry)) (now (orders .entry))) from reply) ⌝ }
 {
     let counts = (t.role == Record::CANDIDATE) & (reply == 1);
     if !counts {

@@ -6,6 +6,7 @@ use borrow.Author.Tests.{not-true, not-false}
 use Rattle.record.specs.Calls.{state-of}
 use Rattle.record.specs.DecidingLaws.{refuse-decides, decides-as}
 use Rattle.record.specs.GoodLaws.{ready-last}
+use Rattle.messages.specs.Required.{brought}
 use Rattle.messages.specs.DeliverLaws.{from-box, arrive-not, arrive-for, read-delivered}
 use Rattle.messages.proofs.deliver.arrive.Statement.{statement}
 use Rattle.messages.proofs.deliver.arrive.Tie as tie
@@ -25,8 +26,8 @@ returns c =
     let entered = at-is-for .before .before .before in
     let terms = entered .args .terms .now in
     let orders = entered .args .orders .now in
-    λ offered b. rw (c .refuse .ensures)
-    (refuse-decides (entered .args .n) offered terms orders 2 (ready-last (entered .pre .ready)) (omega arith)
+    rw (c .refuse .ensures)
+    (refuse-decides (entered .args .n) (brought (entered .args .f)) terms orders 2 (ready-last (entered .pre .ready)) (omega arith)
     (arrive-not (entered .args .f) (state-of (entered .args .n) terms orders) (sym (at-is-for .is-for .ensures terms orders) ∙ not-true _ (at-if1 .if1 .taken))))
 
 deliver-requires : tie.Need-deliver-requires
@@ -42,7 +43,7 @@ returns-2 c =
     let entered = at-is-for .before .before .before in
     let terms = entered .args .terms .now in
     let orders = entered .args .orders .now in
-    λ offered b. decides-as (c .deliver .ensures offered b)
+    decides-as (c .deliver .ensures)
     (arrive-for (entered .args .f) (state-of (entered .args .n) terms orders) (sym (at-is-for .is-for .ensures terms orders) ∙ not-false _ (at-if1 .if1 .left)))
 
 pub arrive-spec : {M : Type 1} → statement M

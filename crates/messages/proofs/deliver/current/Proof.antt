@@ -1,8 +1,10 @@
 -- Each kind's decision is the definition's for that kind.
 use native.Mathlib.Omega.{arith}
 use Rattle.frames.specs.WritingLaws.{whole}
+use Rattle.raft.specs.Order.{blank}
 use Rattle.record.specs.Calls.{state-of}
-use Rattle.record.specs.DecidingLaws.{decides-as}
+use Rattle.record.specs.DecidingLaws.{decides-as, decides-term}
+use Rattle.messages.specs.Required.{brought, brings-blank, brings-own}
 use Rattle.messages.specs.DeliverLaws.{current-1, current-2, current-3, current-4, delivered-lent, delivered-from, delivered-offered}
 use Rattle.messages.proofs.deliver.current.Statement.{statement}
 use Rattle.messages.proofs.deliver.current.Tie as tie
@@ -16,7 +18,7 @@ returns : tie.Need-returns
 returns c =
     let at-if1 = c .before in
     let entered = at-if1 .before .before .before in
-    λ offered b. decides-as (c .vote-request .ensures offered (entered .args .orders .now))
+    decides-as (c .vote-request .ensures (brought (entered .args .f)) (entered .args .orders .now))
     (current-1 (entered .args .f) (state-of (entered .args .t) (entered .args .terms .now) (entered .args .orders .now)) (at-if1 .if1 .taken))
 
 vote-answer-requires : tie.Need-vote-answer-requires
@@ -28,8 +30,8 @@ returns-2 : tie.Need-returns-2
 returns-2 c =
     let at-if2 = c .before in
     let entered = at-if2 .before .before .before .before in
-    λ offered b. decides-as (c .vote-answer .ensures offered (rw (entered .pre .same) (b .elected (at-if2 .if2 .taken))))
-    (current-2 (entered .args .f) (state-of (entered .args .t) (entered .args .terms .now) (entered .args .orders .now)) (at-if2 .if2 .taken))
+    rw (brings-blank (entered .args .f) (at-if2 .if2 .taken)) (decides-as (decides-term blank (entered .pre .same) (c .vote-answer .ensures))
+    (current-2 (entered .args .f) (state-of (entered .args .t) (entered .args .terms .now) (entered .args .orders .now)) (at-if2 .if2 .taken)))
 
 append-requires : tie.Need-append-requires
 append-requires c κs =
@@ -41,7 +43,7 @@ returns-3 : tie.Need-returns-3
 returns-3 c =
     let at-if3 = c .before .before in
     let entered = at-if3 .before .before .before .before .before in
-    λ offered b. rw (b .appended (at-if3 .if3 .taken)) (decides-as (c .append .ensures (entered .args .orders .now))
+    rw (brings-own (entered .args .f) (at-if3 .before .if2 .left)) (decides-as (c .append .ensures (entered .args .orders .now))
     (current-3 (entered .args .f) (state-of (entered .args .t) (entered .args .terms .now) (entered .args .orders .now)) (at-if3 .if3 .taken)))
 
 append-answer-requires : tie.Need-append-answer-requires
@@ -55,7 +57,7 @@ returns-4 c =
     let at-if2 = at-if3 .before in
     let at-if1 = at-if2 .before in
     let entered = at-if1 .before .before .before in
-    λ offered b. decides-as (c .append-answer .ensures offered)
+    decides-as (c .append-answer .ensures (brought (entered .args .f)))
     (current-4 (entered .args .f) (state-of (entered .args .t) (entered .args .terms .now) (entered .args .orders .now)) (at-if1 .if1 .left) (at-if2 .if2 .left) (at-if3 .if3 .left))
 
 pub current-spec : {M : Type 1} → statement M

@@ -4,6 +4,7 @@ use native.Mathlib.Omega.{arith}
 use Rattle.record.specs.Calls.{state-of}
 use Rattle.record.specs.DecidingLaws.{decides-as}
 use Rattle.record.specs.GoodLaws.{ready-last}
+use Rattle.messages.specs.Required.{brought}
 use Rattle.messages.specs.DeliverLaws.{deliver-low, taken-decides, taken-in-term}
 use Rattle.messages.proofs.deliver.deliver.Statement.{statement}
 use Rattle.messages.proofs.deliver.deliver.Tie as tie
@@ -17,7 +18,7 @@ returns : tie.Need-returns
 returns c =
     let at-if1 = c .before in
     let entered = at-if1 .before .before .before .before .before in
-    λ offered b. decides-as (c .stale .ensures offered (entered .args .terms .now) (entered .args .orders .now))
+    decides-as (c .stale .ensures (brought (entered .args .f)) (entered .args .terms .now) (entered .args .orders .now))
     (deliver-low (entered .args .f) (state-of (entered .args .n) (entered .args .terms .now) (entered .args .orders .now)) (at-if1 .if1 .taken))
 
 taken-requires : tie.Need-taken-requires
@@ -33,7 +34,7 @@ returns-2 c =
     let at-taken = c .before in
     let at-if1 = at-taken .before in
     let entered = at-if1 .before .before .before .before .before in
-    λ offered b. taken-decides (entered .args .n) _ (entered .args .f) (entered .args .terms .now) (entered .args .orders .now) (at-taken .taken .ensures) (omega (arith, at-if1 .if1 .left)) (c .current .ensures offered b)
+    taken-decides (entered .args .n) _ (entered .args .f) (entered .args .terms .now) (entered .args .orders .now) (at-taken .taken .ensures) (omega (arith, at-if1 .if1 .left)) (c .current .ensures)
 
 pub deliver-spec : {M : Type 1} → statement M
 deliver-spec =

@@ -2,8 +2,11 @@
 use borrow.Author.Needs.{needs}
 use mathlib.Core.Path.{sym, ap, _∙_}
 use Rattle.raft.specs.Event.{step, receives}
+use Rattle.raft.specs.Receive.{receive}
 use Rattle.record.specs.Calls.{state-of, run}
+use Rattle.record.specs.Deciding.{Decides}
 use Rattle.record.specs.DecidingLaws.{sound, finished, decides-as}
+use Rattle.messages.specs.Required.{brought, brings-blank, brings-own}
 use Rattle.messages.specs.DeliverLaws.{read-not, read-frame}
 use Rattle.messages.proofs.receive.run_bytes.Statement.{statement}
 use Rattle.messages.proofs.receive.run_bytes.Tie as tie
@@ -30,20 +33,25 @@ arrive-requires c κs =
     let entered = at-read .before .before .before .before .before .before in
     record { ready = entered .pre; frame = read-frame (entered .args .bytes .now) _ (at-read .read .ensures) (at-if1 .if1 .left) .0 }
 
-offered-requires : tie.Need-offered-requires
-offered-requires c κs = search needs
-
-finish-adding-requires : tie.Need-finish-adding-requires
-unfolding step
-finish-adding-requires c κs =
-    let at-offered = c .before .before .before .before in
-    let at-arrive = at-offered .before in
-    let at-if1 = at-arrive .before .before .before .before in
+-- What the message decides, it decides for the bytes.
+arrived : (c : tie.After-arrive)
+    → let entered = c .before .before .before .before .before .before .before .before .before .before .before .before in
+    Decides (entered .args .n .last) (c .arrive .result) (brought (c .before .before .before .before .before .before .read .result .fields)) (entered .args .terms .now) (entered .args .orders .now)
+    (receive (entered .args .bytes .now) (state-of (entered .args .n) (entered .args .terms .now) (entered .args .orders .now)))
+arrived c =
+    let at-if1 = c .before .before .before .before in
     let at-read = at-if1 .before .before in
     let entered = at-read .before .before .before .before .before .before in
     let frame = read-frame (entered .args .bytes .now) _ (at-read .read .ensures) (at-if1 .if1 .left) in
-    sound (receives (entered .args .bytes .now)) (entered .pre)
-    (decides-as (at-arrive .arrive .ensures _ (at-offered .offered .ensures)) (frame .1 (state-of (entered .args .n) (entered .args .terms .now) (entered .args .orders .now))))
+    decides-as (c .arrive .ensures) (frame .1 (state-of (entered .args .n) (entered .args .terms .now) (entered .args .orders .now)))
+
+finish-one-requires : tie.Need-finish-one-requires
+unfolding step
+finish-one-requires c κs =
+    let at-if2 = c .before .before .before .before in
+    let at-arrive = at-if2 .before .before in
+    let entered = at-arrive .before .before .before .before .before .before .before .before .before .before .before .before in
+    sound (receives (entered .args .bytes .now)) (entered .pre) (rw (brings-blank (at-arrive .before .before .before .before .before .before .read .result .fields) (at-if2 .if2 .taken)) at (arrived at-arrive))
 
 same-length : tie.Need-same-length
 same-length c = search needs
@@ -60,15 +68,42 @@ same-length-4 c = search needs
 returns-2 : tie.Need-returns-2
 unfolding step
 returns-2 c =
+    let at-finish-one = c .before .before .before .before .before .before .before .before in
+    let at-if2 = at-finish-one .before .before .before .before .before in
+    let at-arrive = at-if2 .before .before in
+    let entered = at-arrive .before .before .before .before .before .before .before .before .before .before .before .before in
+    at-finish-one .finish-one .ensures ∙ finished (receives (entered .args .bytes .now)) (entered .pre)
+    (rw (brings-blank (at-arrive .before .before .before .before .before .before .read .result .fields) (at-if2 .if2 .taken)) at (arrived at-arrive)) (entered .args .journal .now) (entered .args .messages .now)
+
+finish-adding-requires : tie.Need-finish-adding-requires
+unfolding step
+finish-adding-requires c κs =
+    let at-if2 = c .before .before .before .before .before in
+    let at-arrive = at-if2 .before .before in
+    let entered = at-arrive .before .before .before .before .before .before .before .before .before .before .before .before in
+    sound (receives (entered .args .bytes .now)) (entered .pre) (rw (brings-own (at-arrive .before .before .before .before .before .before .read .result .fields) (at-if2 .if2 .left)) at (arrived at-arrive))
+
+same-length-5 : tie.Need-same-length-5
+same-length-5 c = search needs
+
+same-length-6 : tie.Need-same-length-6
+same-length-6 c = search needs
+
+same-length-7 : tie.Need-same-length-7
+same-length-7 c = search needs
+
+same-length-8 : tie.Need-same-length-8
+same-length-8 c = search needs
+
+returns-3 : tie.Need-returns-3
+unfolding step
+returns-3 c =
     let at-finish-adding = c .before .before .before .before .before .before .before .before in
-    let at-offered = at-finish-adding .before .before .before .before .before in
-    let at-arrive = at-offered .before in
-    let at-if1 = at-arrive .before .before .before .before in
-    let at-read = at-if1 .before .before in
-    let entered = at-read .before .before .before .before .before .before in
-    let frame = read-frame (entered .args .bytes .now) _ (at-read .read .ensures) (at-if1 .if1 .left) in
-    let decides = decides-as (at-arrive .arrive .ensures _ (at-offered .offered .ensures)) (frame .1 (state-of (entered .args .n) (entered .args .terms .now) (entered .args .orders .now))) in
-    at-finish-adding .finish-adding .ensures ∙ finished (receives (entered .args .bytes .now)) (entered .pre) decides (entered .args .journal .now) (entered .args .messages .now)
+    let at-if2 = at-finish-adding .before .before .before .before .before .before in
+    let at-arrive = at-if2 .before .before in
+    let entered = at-arrive .before .before .before .before .before .before .before .before .before .before .before .before in
+    at-finish-adding .finish-adding .ensures ∙ finished (receives (entered .args .bytes .now)) (entered .pre)
+    (rw (brings-own (at-arrive .before .before .before .before .before .before .read .result .fields) (at-if2 .if2 .left)) at (arrived at-arrive)) (entered .args .journal .now) (entered .args .messages .now)
 
 pub run-bytes-spec : {M : Type 1} → statement M
 run-bytes-spec =
@@ -78,10 +113,15 @@ run-bytes-spec =
     refused-requires
     returns
     arrive-requires
-    offered-requires
-    finish-adding-requires
+    finish-one-requires
     same-length
     same-length-2
     same-length-3
     same-length-4
-    returns-2)
+    returns-2
+    finish-adding-requires
+    same-length-5
+    same-length-6
+    same-length-7
+    same-length-8
+    returns-3)

@@ -21,8 +21,8 @@ returns c =
     let at-if1 = c .before in
     let entered = at-if1 .before .before .before .before in
     let s = state-of (entered .args .t) (entered .args .terms .now) (entered .args .orders .now) in
-    λ offered f. rw (c .step .ensures)
-    (plain-decides (entered .args .t) offered (entered .args .terms .now) (entered .args .orders .now) Send.Nothing (ready-last (entered .pre .ready)) tt
+    rw (c .step .ensures)
+    (plain-decides (entered .args .t) _ (entered .args .terms .now) (entered .args .orders .now) Send.Nothing (ready-last (entered .pre .ready)) tt
     (answer-idle s (entered .args .from) (entered .args .reply) (not-true _ (at-if1 .if1 .taken))))
 
 bit-requires : tie.Need-bit-requires
@@ -45,8 +45,8 @@ returns-2 c =
     let entered = at-if1 .before .before .before .before in
     let s = state-of (entered .args .t) (entered .args .terms .now) (entered .args .orders .now) in
     let few = rw (at-bit .bit .ensures) at (sym (at-is-majority .is-majority .ensures) ∙ not-true _ (at-if2 .if2 .taken)) in
-    λ offered f. rw (c .step2 .ensures)
-    (changed-decides (entered .args .t) _ offered (entered .args .terms .now) (entered .args .orders .now) Send.Nothing refl (ready-last (entered .pre .ready)) tt
+    rw (c .step2 .ensures)
+    (changed-decides (entered .args .t) _ _ (entered .args .terms .now) (entered .args .orders .now) Send.Nothing refl (ready-last (entered .pre .ready)) tt
     (rw (at-bit .bit .ensures) (answer-counts s (entered .args .from) (entered .args .reply) (not-false _ (at-if1 .if1 .left)) few)))
 
 won-requires : tie.Need-won-requires
@@ -77,7 +77,7 @@ returns-3 c =
     let entered = at-if1 .before .before .before .before in
     let s = state-of (entered .args .t) (entered .args .terms .now) (entered .args .orders .now) in
     let most = rw (at-bit .bit .ensures) at (sym (at-is-majority .is-majority .ensures) ∙ not-false _ (at-if2 .if2 .left)) in
-    λ offered f. decides-as (c .won .ensures .0 offered f)
+    decides-as (c .won .ensures .0)
     (rw (at-bit .bit .ensures) (answer-wins s (entered .args .from) (entered .args .reply) (not-false _ (at-if1 .if1 .left)) most))
 
 pub vote-answer-spec : {M : Type 1} → statement M
