@@ -1,8 +1,8 @@
 -- The test is the definition's own.
 use borrow.Author.Needs.{needs}
 use Rattle.record.specs.Sizes.{roomy}
-use Rattle.finishing.proofs.fits.Statement.{statement}
-use Rattle.finishing.proofs.fits.Tie as tie
+use Rattle.finishing.proofs.measuring.fits.Statement.{statement}
+use Rattle.finishing.proofs.measuring.fits.Tie as tie
 
 returns : tie.Need-returns
 unfolding roomy

@@ -2,8 +2,8 @@
 use borrow.Author.Needs.{needs}
 use Rattle.record.specs.Deciding.{Aimed}
 use Rattle.record.specs.Sizes.{sent-size}
-use Rattle.finishing.proofs.sent_size.Statement.{statement}
-use Rattle.finishing.proofs.sent_size.Tie as tie
+use Rattle.finishing.proofs.measuring.sent_size.Statement.{statement}
+use Rattle.finishing.proofs.measuring.sent_size.Tie as tie
 
 enum-told : tie.Need-enum-told
 enum-told c = search needs

@@ -2,8 +2,8 @@
 use borrow.Author.Needs.{needs}
 use mathlib.Core.Path.{sym, _∙_}
 use Rattle.record.specs.Sizes.{line-size}
-use Rattle.finishing.proofs.line_size.Statement.{statement}
-use Rattle.finishing.proofs.line_size.Tie as tie
+use Rattle.finishing.proofs.measuring.line_size.Statement.{statement}
+use Rattle.finishing.proofs.measuring.line_size.Tie as tie
 
 is-silent-requires : tie.Need-is-silent-requires
 is-silent-requires c κs = search needs

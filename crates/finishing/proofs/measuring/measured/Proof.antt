@@ -4,8 +4,8 @@ use native.Mathlib.Omega.{arith}
 use mathlib.Core.Path.{sym, _∙_}
 use borrow.Author.Tests.{eq-eqb, ne-eqb, not-true, not-false}
 use Rattle.record.specs.Sizes.{measured}
-use Rattle.finishing.proofs.measured.Statement.{statement}
-use Rattle.finishing.proofs.measured.Tie as tie
+use Rattle.finishing.proofs.measuring.measured.Statement.{statement}
+use Rattle.finishing.proofs.measuring.measured.Tie as tie
 
 returns : tie.Need-returns
 unfolding measured

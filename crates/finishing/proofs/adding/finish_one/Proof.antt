@@ -1,8 +1,8 @@
 -- The four that are offered are the entry and three that are none.
 use borrow.Author.Needs.{needs}
 use Rattle.record.specs.Deciding.{one-entry}
-use Rattle.finishing.proofs.finish_one.Statement.{statement}
-use Rattle.finishing.proofs.finish_one.Tie as tie
+use Rattle.finishing.proofs.adding.finish_one.Statement.{statement}
+use Rattle.finishing.proofs.adding.finish_one.Tie as tie
 
 finish-adding-requires : tie.Need-finish-adding-requires
 unfolding one-entry

@@ -4,8 +4,8 @@ use native.Mathlib.Omega.{arith}
 use Prim.Native.Nat.{_+_, _-_}
 use mathlib.Core.Path.{_≡_, refl}
 use Rattle.record.specs.WrittenLaws.{fitting, measurable, refused-left, stored-at, lent-line, lent-messages, lent-left}
-use Rattle.finishing.proofs.finish_adding.Statement.{statement}
-use Rattle.finishing.proofs.finish_adding.Tie as tie
+use Rattle.finishing.proofs.adding.finish_adding.Statement.{statement}
+use Rattle.finishing.proofs.adding.finish_adding.Tie as tie
 
 measured-requires : tie.Need-measured-requires
 measured-requires c κs =

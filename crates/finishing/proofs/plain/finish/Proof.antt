@@ -3,8 +3,8 @@ use borrow.Author.Needs.{needs}
 use native.Mathlib.Omega.{arith}
 use mathlib.Core.Path.{refl, sym}
 use Rattle.record.specs.WrittenLaws.{fitting, measurable, refused-left, log-stays, lent-line, lent-messages, lent-left}
-use Rattle.finishing.proofs.finish.Statement.{statement}
-use Rattle.finishing.proofs.finish.Tie as tie
+use Rattle.finishing.proofs.plain.finish.Statement.{statement}
+use Rattle.finishing.proofs.plain.finish.Tie as tie
 
 measured-requires : tie.Need-measured-requires
 measured-requires c κs =

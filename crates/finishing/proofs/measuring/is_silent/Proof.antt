@@ -1,8 +1,8 @@
 -- The test is the definition's own.
 use borrow.Author.Needs.{needs}
 use Rattle.record.specs.Sizes.{is-silent}
-use Rattle.finishing.proofs.is_silent.Statement.{statement}
-use Rattle.finishing.proofs.is_silent.Tie as tie
+use Rattle.finishing.proofs.measuring.is_silent.Statement.{statement}
+use Rattle.finishing.proofs.measuring.is_silent.Tie as tie
 
 returns : tie.Need-returns
 unfolding is-silent

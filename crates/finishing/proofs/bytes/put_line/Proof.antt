@@ -3,8 +3,8 @@ use borrow.Author.Needs.{needs}
 use mathlib.Core.Path.{sym, _∙_}
 use Rattle.record.specs.Sizes.{line-bytes}
 use Rattle.record.specs.WrittenLaws.{line-none, line-some}
-use Rattle.finishing.proofs.put_line.Statement.{statement}
-use Rattle.finishing.proofs.put_line.Tie as tie
+use Rattle.finishing.proofs.bytes.put_line.Statement.{statement}
+use Rattle.finishing.proofs.bytes.put_line.Tie as tie
 
 returns : tie.Need-returns
 returns c =

@@ -6,8 +6,8 @@ use Rattle.digits.specs.Room.{over}
 use Rattle.record.specs.Deciding.{messages-of, Aimed}
 use Rattle.record.specs.Sizes.{sent-size}
 use Rattle.record.specs.SizeLaws.{over-none, texts-one, asked}
-use Rattle.finishing.proofs.put_messages.Statement.{statement}
-use Rattle.finishing.proofs.put_messages.Tie as tie
+use Rattle.finishing.proofs.bytes.put_messages.Statement.{statement}
+use Rattle.finishing.proofs.bytes.put_messages.Tie as tie
 
 enum-told : tie.Need-enum-told
 enum-told c = search needs
