@@ -32,5 +32,6 @@ pub mod ReceiveLaws
 pub mod ReceiveSends
 pub mod RefusalLaws
 pub mod EventLaws
+pub mod CommitRises
 pub mod Exactly
 pub mod Readings

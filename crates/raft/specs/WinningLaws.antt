@@ -1,9 +1,10 @@
--- What the blank does: it is behind the log where there is room, the first appends carry it and nothing else, and a park of one commits it at once. Assumes nothing.
+-- What the blank does: it is behind the log where there is room, the first appends carry it and nothing else, and a park of one commits it at once; and what else
+-- winning changes. Assumes nothing.
 use Prim.Native.Nat.{ℕ, _+_, _-_, _≤_, _<_}
 use native.Mathlib.Omega.{arith}
 use mathlib.Core.Path.{_≡_, refl}
 use mathlib.Core.Bool.{true, cond, _&&_}
-use mathlib.Core.List.{List, [], _∷_}
+use mathlib.Core.List.{List, [], _∷_, _++_}
 use lib.Dec.{eqb, leb}
 use lib.ListN.{length-append}
 use lib.Seq.{drop-append-seam, drop-length}
@@ -15,11 +16,33 @@ use Rattle.raft.specs.Record.{State, last-index, last-term, is-other, of
 use Rattle.raft.specs.Commit.{matches, matching, is-matched, settled, settle}
 use Rattle.raft.specs.Sends.{append-to, appends}
 use Rattle.raft.specs.Outcome.{done}
-use Rattle.raft.specs.Order.{ordered, blank}
+use Rattle.raft.specs.Order.{ordered, blank, order}
 use Rattle.raft.specs.Winning.{next-after, leading, winner, won}
 use Rattle.raft.specs.RecordLaws.{at-box, Good, member-facts}
 use Rattle.raft.specs.CommitLaws.{is-highest, term-front, term-new}
-use Rattle.raft.specs.StepLaws.{winner-full, winner-room, led-carries}
+use Rattle.raft.specs.StepLaws.{winner-full, winner-room, winner-ends, led-carries, order-ends}
+
+-- ---- what winning changes, and an order
+
+-- The blank stands behind the log, of the new term,
+pub blank-there : (s : State) → last-index s < log-limit → winner s .log ≡ s .log ++ (record { term = s .term; order = 0 } ∷ [])
+unfolding leading ordered
+blank-there s l = rw (winner-room s l)
+
+-- as an order that is taken does, with the client's bytes.
+pub order-there : (o : ℕ) (s t : State) (ms : List Message) → order o s ≡ done t ms → t .log ≡ s .log ++ (record { term = s .term; order = o } ∷ [])
+unfolding settle ordered
+order-there o s t ms = order-ends (λ u ns. u .log ≡ s .log ++ (record { term = s .term; order = o } ∷ [])) o s (λ r l. refl) t ms
+
+-- What was handed out stays so: commit is as it was until it is settled.
+pub winner-commit : (s : State) → winner s .commit ≡ s .commit
+unfolding leading ordered
+winner-commit s = winner-ends (λ t. t .commit ≡ s .commit) s refl (λ l. refl)
+
+-- "match = 0"
+pub winner-match : (s : State) → winner s .lead .matched ≡ zeros
+unfolding leading ordered
+winner-match s = winner-ends (λ t. t .lead .matched ≡ zeros) s refl (λ l. refl)
 
 -- ---- the first appends
 
