@@ -1,9 +1,11 @@
 -- 01's table of refusals has no number 0: whoever refuses says so. Assumes nothing.
 use Prim.Native.Nat.{ℕ, _≤_}
 use native.Mathlib.Omega.{arith}
+use mathlib.Core.Path.{_≡_}
 use mathlib.Core.Bool.{Bool, true, false, cond, _&&_}
 use mathlib.Core.List.{List}
 use lib.Dec.{eqb, ltb, leb}
+use borrow.Author.Tests.{eq-eqb, ne-eqb}
 use Rattle.frames.specs.declared.Entry.{Entry}
 use Rattle.frames.specs.Limits.{log-limit}
 use Rattle.frames.specs.Message.{Message, vote-request, vote-answer, append, append-answer}
@@ -59,6 +61,16 @@ order-numbered o s =
     by-test (eqb (s .role) leader) _ _
     (by-test (eqb o blank) _ _ (numbers 13 (omega arith)) (by-test (is-full s) _ _ (numbers 4 (omega arith)) (ends _ _)))
     (numbers 3 (omega arith))
+
+-- Who does not lead says 3 to any order,
+pub unled-order : (o : ℕ) (s : State) → (s .role ≡ leader → ⊥) → order o s ≡ refuse 3
+unfolding order
+unled-order o s n = rw (ne-eqb (s .role) leader n)
+
+-- and a leader 13 to the blank, however full its log is.
+pub blank-refused : (s : State) → s .role ≡ leader → order blank s ≡ refuse 13
+unfolding order
+blank-refused s r = rw (eq-eqb (s .role) leader r)
 
 pub prompt-numbered : (s : State) → Numbered (prompt s)
 unfolding prompt
