@@ -346,3 +346,22 @@ settled-least s = is-highest (settles s) (s .commit) (last-index s) .least
 pub settled-most : (s : State) → s .commit ≤ last-index s → settled s ≤ last-index s
 unfolding settled
 settled-most s h = omega (arith, is-highest (settles s) (s .commit) (last-index s) .most)
+
+-- **An entry of its term that a majority matches is committed,** and with it all before it.
+pub reaches : (s : State) (n : ℕ) → n ≤ last-index s → term-at (s .log) n ≡ s .term → is-matched s n ≡ true → n ≤ settled s
+unfolding settled
+reaches s n l own most = go (decLe n (s .commit))
+  where
+    go : Dec (n ≤ s .commit) → n ≤ settled s
+    go (yes b) = omega (arith, is-highest (settles s) (s .commit) (last-index s) .least)
+    go (no b) = is-highest (settles s) (s .commit) (last-index s) .top n (omega arith) l (and-both _ _ (eq-eqb _ _ own) most)
+
+-- **With no entry of its term it commits nothing,** whoever has said yes to whatever.
+pub stands-still : (s : State) → s .commit ≤ last-index s → ((n : ℕ) → n ≤ last-index s → term-at (s .log) n ≡ s .term → ⊥) → settled s ≡ s .commit
+unfolding settled
+stands-still s c none = go (is-highest (settles s) (s .commit) (last-index s)) (decLe (settled s) (s .commit))
+  where
+    go : Highest (settles s) (s .commit) (last-index s) (settled s) → Dec (settled s ≤ s .commit) → settled s ≡ s .commit
+    go h (yes l) = le-antisymm l (h .least)
+    go h (no l) =
+        absurd (none (settled s) (omega (arith, h .most)) (eqb-true _ _ (and-left _ (is-matched s (settled s)) (h .passes (omega arith)))))

@@ -35,7 +35,7 @@ use Rattle.raft.specs.AppendAnswer.{match-after, next-heard, heard, send
 use Rattle.raft.specs.MajorityLaws.{within-or, holds-or}
 use Rattle.raft.specs.CommitLaws.{by-test}
 use Rattle.raft.specs.RecordLaws.{box-range, range-box, Good, good-facts, facts-good, member-facts, self-voted, leader-sent}
-use Rattle.raft.specs.StepLaws.{in-order-later, follows-facts, facts-follow, own-bit, none-of-box, good-winner, good-settle, same-done, no-done, Led}
+use Rattle.raft.specs.StepLaws.{in-order-later, follows-facts, facts-follow, own-bit, none-of-box, good-winner, good-settle, same-done, no-done, Led, won-led}
 use Rattle.raft.specs.SendLaws.{in-order-drop}
 use Rattle.raft.specs.JoinLaws.{stop-offered, joined-same, joined-long, passes-long, lacks-not}
 
@@ -99,8 +99,7 @@ ends-refuse P n t ms e = no-done n t ms e
 
 -- a box that won settles its commit and sends appends that carry it
 ends-won : (P : State → List Message → Type 0) (s : State) → Led P (winner s) → Ends P (won s)
-unfolding won
-ends-won P s p = ends-done P _ _ p
+ends-won P s p = rw (won-led s) (ends-done P _ _ p)
 
 -- What holds of a lower term's end, and of the kind's at the record with the term taken, holds of a message's end.
 deliver-ends : (P : State → List Message → Type 0) (s : State) (m : Message) → (term-of m < s .term → Ends P (stale m s))

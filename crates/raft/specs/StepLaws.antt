@@ -2,7 +2,7 @@
 use Prim.Native.Nat.{ℕ, zero, suc, _+_, _≤_, _<_}
 use native.Mathlib.Decide.{decLe}
 use native.Mathlib.Omega.{arith}
-use mathlib.Core.Path.{_≡_, refl}
+use mathlib.Core.Path.{_≡_, refl, sym, _∙_}
 use mathlib.Core.Bool.{Bool, true, false, not, cond, _&&_, _||_}
 use mathlib.Core.List.{List, [], _∷_, _++_}
 use lib.Dec.{eqb, ltb, leb}
@@ -235,12 +235,17 @@ Led P s = P (settle s) (appends (settle s))
 pub led-carries : (s t : State) (ms : List Message) → led s ≡ done t ms → ms ≡ appends t
 led-carries s t ms e = same-done (λ u ns. ns ≡ appends u) (settle s) t (appends (settle s)) ms e refl
 
+-- Winning is such a step, of the box that has its blank.
+pub won-led : (s : State) → won s ≡ led (winner s)
+unfolding won
+won-led s = refl
+
 -- What holds of each end of a timeout holds of its record and messages.
 pub timeout-ends : (P : State → List Message → Type 0) (s : State) → (s .role ≡ leader → P s [])
     → (Stands s → majority (s .members) (bit (s .me)) ≡ true → Led P (winner (standing s)))
     → (Stands s → majority (s .members) (bit (s .me)) ≡ false → P (standing s) (vote-requests (standing s)))
     → (t : State) (ms : List Message) → timeout s ≡ done t ms → P t ms
-unfolding timeout won
+unfolding timeout
 timeout-ends P s leads wins stands t ms =
     go (eqb (s .role) leader) refl (eqb (s .term) last-of-terms) refl (majority (s .members) (bit (s .me))) refl
   where
@@ -250,7 +255,7 @@ timeout-ends P s leads wins stands t ms =
         → P t ms
     go true p b q c m e = same-done P s t [] ms e (leads (eqb-true _ _ p))
     go false p true q c m e = no-done 9 t ms e
-    go false p false q true m e = same-done P _ t _ ms e (wins (record { unled = eqb-false _ _ p; early = eqb-false _ _ q }) m)
+    go false p false q true m e = same-done P _ t _ ms (sym (won-led (standing s)) ∙ e) (wins (record { unled = eqb-false _ _ p; early = eqb-false _ _ q }) m)
     go false p false q false m e = same-done P _ t _ ms e (stands (record { unled = eqb-false _ _ p; early = eqb-false _ _ q }) m)
 
 -- The same of an order

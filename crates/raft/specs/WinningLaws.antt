@@ -2,7 +2,7 @@
 -- winning changes. Assumes nothing.
 use Prim.Native.Nat.{ℕ, _+_, _-_, _≤_, _<_}
 use native.Mathlib.Omega.{arith}
-use mathlib.Core.Path.{_≡_, refl}
+use mathlib.Core.Path.{_≡_, refl, sym, _∙_}
 use mathlib.Core.Bool.{true, cond, _&&_}
 use mathlib.Core.List.{List, [], _∷_, _++_}
 use lib.Dec.{eqb, leb}
@@ -19,8 +19,8 @@ use Rattle.raft.specs.Outcome.{done}
 use Rattle.raft.specs.Order.{ordered, blank, order}
 use Rattle.raft.specs.Winning.{next-after, leading, winner, won}
 use Rattle.raft.specs.RecordLaws.{at-box, Good, member-facts}
-use Rattle.raft.specs.CommitLaws.{is-highest, term-front, term-new}
-use Rattle.raft.specs.StepLaws.{winner-full, winner-room, winner-ends, led-carries, order-ends}
+use Rattle.raft.specs.CommitLaws.{settled-most, reaches, term-front, term-new}
+use Rattle.raft.specs.StepLaws.{winner-full, winner-room, winner-ends, led-carries, won-led, order-ends}
 
 -- ---- what winning changes, and an order
 
@@ -48,8 +48,7 @@ winner-match s = winner-ends (λ t. t .lead .matched ≡ zeros) s refl (λ l. re
 
 -- They are those of the next record: "before its first appends".
 pub won-carries : (s t : State) (ms : List Message) → won s ≡ done t ms → ms ≡ appends t
-unfolding won
-won-carries s t ms e = led-carries (winner s) t ms e
+won-carries s t ms e = led-carries (winner s) t ms (sym (won-led s) ∙ e)
 
 -- a new leader's next is the definition's
 next-there : (s : State) (i : ℕ) → 1 ≤ i → i ≤ boxes → of-box (of-each (next-after s)) i ≡ next-after s i
@@ -101,14 +100,12 @@ alone-matches s z n l m a b = rw z (alone-sum (last-index s) n l m (s .me) a b)
 
 -- **"A majority already (one member): it leads at once", and commits its blank, and all before it, in the same step.**
 pub alone-commits : (s : State) → Good s → majority (s .members) (bit (s .me)) ≡ true → last-index s < log-limit → settled (winner s) ≡ last-index s + 1
-unfolding settled is-matched leading ordered
+unfolding is-matched leading ordered
 alone-commits s g most l =
     let m = member-facts (s .me) (s .members) (g .membership) in
     let x : State = ordered (leading s) blank in
     let long : last-index x ≡ last-index s + 1 = length-append (s .log) _ in
     let new : term-at (x .log) (last-index x) ≡ s .term = term-new (s .log) _ (last-index x) long in
     let matched : matching x (last-index x) ≡ bit (s .me) = alone-matches x refl (last-index x) (omega arith) (omega arith) (m .least) (m .most) in
-    let top = is-highest (λ n. eqb (term-at (x .log) n) (x .term) && majority (x .members) (matching x n)) (x .commit) (last-index x) in
-    let passes : (eqb (term-at (x .log) (last-index x)) (x .term) && majority (x .members) (matching x (last-index x))) ≡ true =
-    rw (eq-eqb _ _ new, matched, most) in
-    rw (winner-room s l) (omega (arith, long, g .commit, top .most, top .top (last-index x) (omega (arith, long, g .commit)) (omega arith) passes))
+    rw (winner-room s l)
+    (omega (arith, long, settled-most x (omega (arith, long, g .commit)), reaches x (last-index x) (omega arith) new (rw matched most)))

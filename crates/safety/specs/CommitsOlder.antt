@@ -93,7 +93,7 @@ pub commits-older : Reached 7 gone-on × (handed-out (answered .box 2) ≡ []) �
 unfolding opens
 commits-older = (run-both third-reached older-run, refl, refl)
 
--- **Without its blank box 2 would stand still,** though both others have said yes to all that it has. (Of any record: `GoesOn.stands-still`.)
+-- **Without its blank box 2 would stand still,** though both others have said yes to all that it has. (Of any record: `stands-still` of `raft/specs/CommitLaws`.)
 pub stood-still : settle (heard (heard (leading (adding box-2-stands 3)) 3 1 2) 1 1 2) .commit ≡ 0
 unfolding opens
 stood-still = refl

@@ -1,25 +1,23 @@
 -- A new leader does not sit on old orders (02, T-01): at every moment of every run, a leader whose last index a majority matches hands out all of its log, of
 -- whatever terms its entries are, but where it won with a full log. For its last entry is of its own term: the blank, or an order behind it. (Before T-01
--- that was not so: `CommitsOlder`. Nor is it of who won with a full log and has no entry of its term: `stands-still`.) Assumes nothing.
+-- that was not so: `CommitsOlder`. Nor is it of who won with a full log and has no entry of its term: `stands-still` of
+-- `raft/specs/CommitLaws`.) Assumes nothing.
 use Prim.Native.Nat.{ℕ, _≤_, _<_}
 use native.Mathlib.Decide.{decLe}
-use native.Mathlib.Nat.{le-antisymm}
 use native.Mathlib.Omega.{arith}
 use mathlib.Core.Path.{_≡_, refl, sym, _∙_}
-use mathlib.Core.Bool.{Bool, true, _&&_}
+use mathlib.Core.Bool.{true}
 use mathlib.Core.List.{List, [], _∷_, _++_}
-use lib.Dec.{eqb}
 use lib.ListN.{length, length-append}
 use lib.Seq.{take-all}
-use borrow.Author.Tests.{eqb-true, eq-eqb, le-ltb}
-use Rattle.digits.specs.Tests.{and-left, and-both}
+use borrow.Author.Tests.{eq-eqb, le-ltb}
 use Rattle.frames.specs.declared.Entry.{Entry}
 use Rattle.frames.specs.Limits.{log-limit}
 use Rattle.frames.specs.Message.{Message, append-answer}
 use Rattle.frames.specs.Reading.{frame, reading}
 use Rattle.raft.specs.Record.{State, leader, fresh, last-index, last-term, term-at, is-other, handed-out}
-use Rattle.raft.specs.Commit.{matches, matching, is-matched, settled, settle}
-use Rattle.raft.specs.CommitLaws.{term-new, Highest, is-highest}
+use Rattle.raft.specs.Commit.{matches, matching, is-matched, settle}
+use Rattle.raft.specs.CommitLaws.{term-new, reaches}
 use Rattle.raft.specs.Timeout.{standing}
 use Rattle.raft.specs.Order.{ordered}
 use Rattle.raft.specs.Winning.{leading, winner}
@@ -38,31 +36,6 @@ use Rattle.safety.specs.Park.{Park, start, after, steps, restarts, stays
 use Rattle.safety.specs.Disks.{Site, built, Goes}
 use Rattle.safety.specs.Endings.{Ending, rests, stands, leads-alone, takes-up, prompts, takes, votes, votes-not, wins, counts, declines, wants, joins, hears, hears-again, event-ending}
 use Rattle.safety.specs.ParkOnDisk.{as-park}
-
--- ---- what a leader settles
-
--- An entry of the leader's term that counts: a majority matches it.
-abbrev counting : State → ℕ → Bool
-counting s n = eqb (term-at (s .log) n) (s .term) && is-matched s n
-
--- **An entry of its term that a majority matches is committed,** and with it all before it.
-pub reaches : (s : State) (n : ℕ) → n ≤ last-index s → term-at (s .log) n ≡ s .term → is-matched s n ≡ true → n ≤ settled s
-unfolding settled
-reaches s n l own most = go (decLe n (s .commit))
-  where
-    go : Dec (n ≤ s .commit) → n ≤ settled s
-    go (yes b) = omega (arith, is-highest (counting s) (s .commit) (last-index s) .least)
-    go (no b) = is-highest (counting s) (s .commit) (last-index s) .top n (omega arith) l (and-both _ _ (eq-eqb _ _ own) most)
-
--- **With no entry of its term it commits nothing,** whoever has said yes to whatever.
-pub stands-still : (s : State) → s .commit ≤ last-index s → ((n : ℕ) → n ≤ last-index s → term-at (s .log) n ≡ s .term → ⊥) → settled s ≡ s .commit
-unfolding settled
-stands-still s c none = go (is-highest (counting s) (s .commit) (last-index s)) (decLe (settled s) (s .commit))
-  where
-    go : Highest (counting s) (s .commit) (last-index s) (settled s) → Dec (settled s ≤ s .commit) → settled s ≡ s .commit
-    go h (yes l) = le-antisymm l (h .least)
-    go h (no l) =
-        absurd (none (settled s) (omega (arith, h .most)) (eqb-true _ _ (and-left _ (is-matched s (settled s)) (h .passes (omega arith)))))
 
 -- ---- over one step
 

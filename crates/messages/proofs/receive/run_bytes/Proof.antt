@@ -51,7 +51,9 @@ finish-one-requires c κs =
     let at-if2 = c .before .before .before .before in
     let at-arrive = at-if2 .before .before in
     let entered = at-arrive .before .before .before .before .before .before .before .before .before .before .before .before in
-    sound (receives (entered .args .bytes .now)) (entered .pre) (rw (brings-blank (at-arrive .before .before .before .before .before .before .read .result .fields) (at-if2 .if2 .taken)) at (arrived at-arrive))
+    let fields = at-arrive .before .before .before .before .before .before .read .result .fields in
+    let decides = rw (brings-blank fields (at-if2 .if2 .taken)) at (arrived at-arrive) in
+    sound (receives (entered .args .bytes .now)) (entered .pre) decides
 
 same-length : tie.Need-same-length
 same-length c = search needs
@@ -72,8 +74,10 @@ returns-2 c =
     let at-if2 = at-finish-one .before .before .before .before .before in
     let at-arrive = at-if2 .before .before in
     let entered = at-arrive .before .before .before .before .before .before .before .before .before .before .before .before in
+    let fields = at-arrive .before .before .before .before .before .before .read .result .fields in
+    let decides = rw (brings-blank fields (at-if2 .if2 .taken)) at (arrived at-arrive) in
     at-finish-one .finish-one .ensures ∙ finished (receives (entered .args .bytes .now)) (entered .pre)
-    (rw (brings-blank (at-arrive .before .before .before .before .before .before .read .result .fields) (at-if2 .if2 .taken)) at (arrived at-arrive)) (entered .args .journal .now) (entered .args .messages .now)
+    decides (entered .args .journal .now) (entered .args .messages .now)
 
 finish-adding-requires : tie.Need-finish-adding-requires
 unfolding step
@@ -81,7 +85,9 @@ finish-adding-requires c κs =
     let at-if2 = c .before .before .before .before .before in
     let at-arrive = at-if2 .before .before in
     let entered = at-arrive .before .before .before .before .before .before .before .before .before .before .before .before in
-    sound (receives (entered .args .bytes .now)) (entered .pre) (rw (brings-own (at-arrive .before .before .before .before .before .before .read .result .fields) (at-if2 .if2 .left)) at (arrived at-arrive))
+    let fields = at-arrive .before .before .before .before .before .before .read .result .fields in
+    let decides = rw (brings-own fields (at-if2 .if2 .left)) at (arrived at-arrive) in
+    sound (receives (entered .args .bytes .now)) (entered .pre) decides
 
 same-length-5 : tie.Need-same-length-5
 same-length-5 c = search needs
@@ -102,8 +108,10 @@ returns-3 c =
     let at-if2 = at-finish-adding .before .before .before .before .before .before in
     let at-arrive = at-if2 .before .before in
     let entered = at-arrive .before .before .before .before .before .before .before .before .before .before .before .before in
+    let fields = at-arrive .before .before .before .before .before .before .read .result .fields in
+    let decides = rw (brings-own fields (at-if2 .if2 .left)) at (arrived at-arrive) in
     at-finish-adding .finish-adding .ensures ∙ finished (receives (entered .args .bytes .now)) (entered .pre)
-    (rw (brings-own (at-arrive .before .before .before .before .before .before .read .result .fields) (at-if2 .if2 .left)) at (arrived at-arrive)) (entered .args .journal .now) (entered .args .messages .now)
+    decides (entered .args .journal .now) (entered .args .messages .now)
 
 pub run-bytes-spec : {M : Type 1} → statement M
 run-bytes-spec =
