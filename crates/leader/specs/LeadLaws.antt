@@ -21,7 +21,7 @@ use Rattle.record.specs.GoodLaws.{ready-good, ready-last}
 use Rattle.leader.specs.Required.{MayLead}
 
 module _ {b first : Record} {terms orders : List ℕ} (k : Becomes b first leading) (may : MayLead b terms orders) where
-  -- it is good,
+  -- The record that begins to lead is good,
   pub first-ready : Ready first terms orders
   first-ready = becomes-ready k (may .ready) (good-leading _ (ready-good (may .ready)) (may .stands))
 
