@@ -1,4 +1,5 @@
 // What looks at a record, or makes the next one, and writes nothing.
+#![tactic(auto)]
 mod decisions;
 mod good;
 mod roles;

@@ -4,6 +4,8 @@
 // of the one below it, and all of them rest on one law over the width (specs/Laws.antt).
 //
 // A table is copied to the stack where it is used, so the writers make it once for a field and lend it to the halves.
+#![tactic(auto)]
+
 mod tables;
 
 ghost use Rattle.std.specs.Prelude.{◌≡◌, true, ◌+◌, ◌≤◌, ◌<◌, length};

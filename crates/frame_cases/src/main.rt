@@ -1,5 +1,6 @@
 // Reads cases from standard input, each ended by `;`, hands each to the frame reader, and prints what it got: `n1`, or the
 // fields in decimal (entries as their 24 digits), and on the next line the frame that the writer makes of them.
+#![tactic(auto)]
 ghost use Rattle.std.specs.Prelude.{◌≤◌, length};
 
 use frames::{Entry, Fields};

@@ -1,6 +1,7 @@
 // Reading: any bytes at all, to the fields of the message or refusal 1.
 //
 // First the form (one line of digits, version, kind, length), then each field from its place, then the rules.
+#![tactic(auto)]
 ghost use Rattle.std.specs.Prelude.{◌≡◌, true, ◌+◌, ◌*◌, ◌≤◌, ◌<◌, get_or};
 ghost use Rattle.digits.specs.Digits.{field, run};
 ghost use Rattle.frames.specs.Fields.{no_entry, places, fields_of, no_fields, answer};

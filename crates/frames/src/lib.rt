@@ -1,4 +1,5 @@
 // 01's frames: the fields of a message, its length, and the rules that it obeys. Reading is in `frame_reader`, writing in `frame_writer`.
+#![tactic(auto)]
 mod frame_rules;
 mod lengths;
 

@@ -1,4 +1,5 @@
 // 01's small program: a box on lines of text. It reads, has each line answered by the library, and prints.
+#![tactic(auto)]
 ghost use Rattle.std.specs.Prelude.{◌≤◌, length};
 
 use libc::STDOUT_FILENO;

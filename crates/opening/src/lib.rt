@@ -1,4 +1,5 @@
 // A box's journal, opened: whole at once, or line by line for one that is longer than memory.
+#![tactic(auto)]
 mod blocks;
 mod lines;
 mod whole;

@@ -1,4 +1,5 @@
 // What is printed: a number, a refusal, and a record as text.
+#![tactic(auto)]
 mod looking;
 mod putting;
 

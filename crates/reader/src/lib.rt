@@ -1,4 +1,5 @@
 // Standard input in large blocks. The bytes of a line that is not whole yet stay at the block's start until the rest has come.
+#![tactic(auto)]
 ghost use Rattle.std.specs.Prelude.{◌+◌, ◌-◌, ◌≤◌, ◌≡◌, length, take, drop};
 ghost use Rattle.digits.specs.Room.{over};
 ghost use Rattle.text.specs.Lines.{first_line};

@@ -1,4 +1,5 @@
 // A look into a journal: the first line asks for a box, the rest is its journal. It reads, has the lines replayed by the library, and prints.
+#![tactic(auto)]
 ghost use Rattle.std.specs.Prelude.{◌≡◌, ◌≤◌, length};
 ghost use Rattle.frames.specs.Limits.{log_limit};
 ghost use Rattle.printing.specs.Putting.{shown_most};
