@@ -8,7 +8,7 @@ pub use lines::{answer, begin};
 use record::Record;
 
 // The first line's answer: false and nothing done where the room is shorter than the longest answer; whether a box was started; how many bytes are to be printed.
-#[derive(Drop)]
+#[derive(Clone, Copy)]
 pub struct Begun {
     pub fits: bool,
     pub started: bool,
@@ -17,7 +17,7 @@ pub struct Begun {
 }
 
 // A later line's answer: as above, with the next box.
-#[derive(Drop)]
+#[derive(Clone, Copy)]
 pub struct Answered {
     pub state: Record,
     pub fits: bool,
@@ -33,7 +33,7 @@ impl Answered {
 }
 
 // What was made of a block of lines: the next box, how many bytes of whole lines were consumed, and how many are to be printed.
-#[derive(Drop)]
+#[derive(Clone, Copy)]
 pub struct AnsweredLines {
     pub state: Record,
     pub consumed: usize,

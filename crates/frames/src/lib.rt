@@ -1,5 +1,6 @@
 // 01's frames: the fields of a message, its length, and the rules that it obeys. Reading is in `frame_reader`, writing in `frame_writer`.
 #![tactic(auto)]
+
 mod frame_rules;
 mod lengths;
 
@@ -7,7 +8,7 @@ pub use frame_rules::{in_order, is_box, is_frame, obeys};
 pub use lengths::{size, text_size};
 
 // An entry of a log: the term it was made in and the order, its 8 bytes as one number, the first byte highest.
-#[derive(Drop)]
+#[derive(Clone, Copy)]
 pub struct Entry {
     pub term: u32,
     pub order: u64,
@@ -15,7 +16,7 @@ pub struct Entry {
 
 // The fields of a message of any of the four kinds. What a kind does not have is 0:
 // index is the last, previous or named index; prior the last or previous term.
-#[derive(Drop)]
+#[derive(Clone, Copy)]
 pub struct Fields {
     pub kind: u8,
     pub from: u8,
@@ -51,14 +52,14 @@ impl Fields {
 }
 
 // The reader's answer: refusal 0 and the fields, or 1 and zeros.
-#[derive(Drop)]
+#[derive(Clone, Copy)]
 pub struct Parsed {
     pub refusal: u8,
     pub fields: Fields,
 }
 
 // The writer's answer: refusal 0 and how many bytes it wrote, or 1 or 5 and 0.
-#[derive(Drop)]
+#[derive(Clone, Copy)]
 pub struct Written {
     pub refusal: u8,
     pub bytes: usize,

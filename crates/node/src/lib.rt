@@ -10,13 +10,13 @@ use changes::is_good;
 use record::{Handed, Record, Step};
 
 // The box.
-#[derive(Drop)]
+#[derive(Clone, Copy)]
 pub struct Node {
     pub state: Record,
 }
 
 // A start's answer: 01's number, the box, and how many bytes of head were written.
-#[derive(Drop)]
+#[derive(Clone, Copy)]
 pub struct Started {
     pub node: Node,
     pub bytes: usize,
@@ -24,7 +24,7 @@ pub struct Started {
 }
 
 // A step's answer: 01's number, the next box, and how many bytes of journal line and messages were written.
-#[derive(Drop)]
+#[derive(Clone, Copy)]
 pub struct Answer {
     pub node: Node,
     pub line: usize,

@@ -11,7 +11,7 @@ use record::Record;
 pub use whole::{open, replay};
 
 // What a journal line tells: "01, 10, box, term 4, vote 1, kept 2, count 1, entries".
-#[derive(Drop)]
+#[derive(Clone, Copy)]
 pub struct LineFields {
     pub who: u8,
     pub term: u32,
@@ -22,7 +22,7 @@ pub struct LineFields {
 }
 
 // One line's answer: 0 and the next record, or 10 and the record as it was.
-#[derive(Drop)]
+#[derive(Clone, Copy)]
 pub struct Replayed {
     pub refusal: u8,
     pub state: Record,
@@ -30,7 +30,7 @@ pub struct Replayed {
 
 // Opening's answer: 0, the record and the bytes up to and with the last line feed; or 11; or 10 and the number of the line.
 // On a refusal the record is all zeros.
-#[derive(Drop)]
+#[derive(Clone, Copy)]
 pub struct Opened {
     pub refusal: u8,
     pub state: Record,
@@ -40,7 +40,7 @@ pub struct Opened {
 
 // What was made of a block of lines: 0, or 10 where the line behind those replayed breaks a rule; the record, and how many bytes and
 // lines were replayed.
-#[derive(Drop)]
+#[derive(Clone, Copy)]
 pub struct Block {
     pub refusal: u8,
     pub state: Record,

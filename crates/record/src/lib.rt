@@ -7,7 +7,7 @@ ghost use Rattle.record.specs.Calls.{record_of};
 use frames::Fields;
 
 // What a leader alone has: next and match for each box, box i's at place i-1.
-#[derive(Drop)]
+#[derive(Clone, Copy)]
 pub struct Lead {
     pub next: [u16; Record::BOXES],
     pub matched: [u16; Record::BOXES],
@@ -28,7 +28,7 @@ impl Lead {
 
 // The box's record, but for its log, which the caller lends: `last` counts its entries. What is read by itself comes first and what is only
 // copied last, here and in the answers: a copy that cuts elsewhere than the one before it has to wait for it (docs/BENCH.md).
-#[derive(Drop)]
+#[derive(Clone, Copy)]
 pub struct Record {
     pub term: u32,
     pub last: u16,
@@ -82,7 +82,7 @@ impl Record {
 }
 
 // What a step sends. An answer's reply is 1, yes, or 0, no.
-#[derive(Drop)]
+#[derive(Clone, Copy)]
 pub enum Send {
     Nothing,
     Requests,
@@ -94,7 +94,7 @@ pub enum Send {
 
 // What an event decides, before anything is written: 01's number; where that is 0 the next record, how many entries of the log it keeps, which of
 // the entries that were offered come behind them (from first up to count), and what is sent.
-#[derive(Drop)]
+#[derive(Clone, Copy)]
 pub struct Decision {
     pub next: Record,
     pub refusal: u8,
@@ -105,7 +105,7 @@ pub struct Decision {
 }
 
 // What is known of a step before anything is written: 01's number, and how many bytes its journal line and its messages take.
-#[derive(Drop)]
+#[derive(Clone, Copy)]
 pub struct Sizes {
     pub refusal: u8,
     pub line: usize,
@@ -113,7 +113,7 @@ pub struct Sizes {
 }
 
 // A step's answer: 01's number, the next record, and how many bytes of journal line and messages were written.
-#[derive(Drop)]
+#[derive(Clone, Copy)]
 pub struct Step {
     pub state: Record,
     pub line: usize,
@@ -122,7 +122,7 @@ pub struct Step {
 }
 
 // A start's answer: 01's number, the record, and how many bytes of head were written.
-#[derive(Drop)]
+#[derive(Clone, Copy)]
 pub struct Started {
     pub state: Record,
     pub refusal: u8,
@@ -130,7 +130,7 @@ pub struct Started {
 }
 
 // How many entries are handed out, with 01's number.
-#[derive(Drop)]
+#[derive(Clone, Copy)]
 pub struct Handed {
     pub refusal: u8,
     pub count: u16,
