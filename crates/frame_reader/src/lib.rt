@@ -2,6 +2,7 @@
 //
 // First the form (one line of digits, version, kind, length), then each field from its place, then the rules.
 #![tactic(auto)]
+
 ghost use Rattle.std.specs.Prelude.{◌≡◌, true, ◌+◌, ◌*◌, ◌≤◌, ◌<◌, get_or};
 ghost use Rattle.digits.specs.Digits.{field, run};
 ghost use Rattle.frames.specs.Fields.{no_entry, places, fields_of, no_fields, answer};

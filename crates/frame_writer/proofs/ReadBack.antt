@@ -29,7 +29,7 @@ use Rattle.frame_writer.proofs.write.Reads as write
 abbrev Fit : Entry → Type 0
 Fit e = (e.term < 4294967296) × (e.order < 18446744073709551616)
 
-each_fits : (es : List Entry) (us : List Val) → shadow (each (entry.the_field).row.Denot (entry.the_field).row.own_val (map (entry.the_field).into es) us)
+each_fits : (es : List Entry) (us : List Val) → shadow (each (entry.the_row).Denot (entry.the_row).own_val es us)
     → (i : ℕ) → Fit (get_or es i no_entry)
 each_fits [] us h i = (omega arith, omega arith)
 each_fits (e ∷ es) [] h i = absurd h
@@ -59,7 +59,7 @@ typed f vs h =
       commit = commit.0.1;
       reply = reply.0.1;
       count = count.0.1;
-      entries = sym (length-map f.entries (entry.the_field).into) ∙ entries.1.0.1;
+      entries = entries.1.0.1;
       entry_term = λ i. (each_fits f.entries entries.0 entries.1.1 i).0;
       entry_order = λ i. (each_fits f.entries entries.0 entries.1.1 i).1;
     }

@@ -1,5 +1,6 @@
 // Writing: any fields at all, into room that the caller lends. Refusals 1 and 5 leave the room as it was.
 #![tactic(auto)]
+
 ghost use Rattle.std.specs.Prelude.{◌≡◌, [], ◌∷◌, ◌+◌, ◌*◌, ◌≤◌, ◌<◌, length};
 ghost use Rattle.digits.specs.Room.{over};
 ghost use Rattle.frames.specs.Limits.{entry_limit};

@@ -1,5 +1,6 @@
 // Bytes as lines: where a line ends.
 #![tactic(auto)]
+
 ghost use Rattle.std.specs.Prelude.{◌≡◌, ◌+◌, ◌≤◌, length, take, drop};
 ghost use Rattle.text.specs.Lines.{first_line, has_none, Passed};
 

@@ -1,0 +1,20 @@
+-- Each field is read from its place, and there are as many entries as are counted.
+use Rattle.frames.specs.Reading.{append_in}
+use Rattle.frames.specs.Fields.{fields_of}
+use Rattle.frames.specs.ReadingLaws.{length-entries}
+use Rattle.frame_reader.proofs.append.Goals as goal
+
+pub returns : goal.returns
+unfolding fields_of append_in
+returns c =
+    rw (
+      c.get_u16-2.ensures,
+      c.get_u32-2.ensures,
+      c.get_u16.ensures,
+      c.get_u32.ensures,
+      c.get_u8-2.ensures,
+      c.get_u8.ensures,
+      c.entries-entries.ensures,
+      c.get_u8-count.ensures,
+      length-entries,
+    )

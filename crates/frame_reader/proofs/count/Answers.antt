@@ -1,0 +1,22 @@
+-- An append's fixed part reaches past its count; other kinds have none.
+use native.Mathlib.Omega.{arith}
+use Prim.Native.Nat.{◌*◌, ◌≤◌}
+use mathlib.Core.Path.{sym, ◌∙◌}
+use Rattle.digits.specs.Digits.{run}
+use Rattle.frames.specs.Reading.{size}
+use Rattle.frames.specs.ReadingLaws.{count-append, count_none}
+use Rattle.frame_reader.proofs.count.Goals as goal
+
+pub get_u8-requires : goal.get_u8-requires
+unfolding size
+get_u8-requires c =
+    let fixed : 2 * size 3 0 ≤ run c.args.s.now = rw c.if-kind-eq3.true at c.requires.fixed in
+    omega arith
+
+pub returns-then-kind-eq3 : goal.returns-then-kind-eq3
+returns-then-kind-eq3 c =
+    c.get_u8.ensures ∙ sym (count-append c.args.s.now (sym c.requires.kind_is ∙ c.if-kind-eq3.true))
+
+pub returns : goal.returns
+returns c =
+    sym (count_none c.args.s.now (λ e. c.if-kind-eq3.false (c.requires.kind_is ∙ e)))

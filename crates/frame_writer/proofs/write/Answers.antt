@@ -1,0 +1,35 @@
+-- 1 first, then 5, then the frame: the order of the definition.
+use native.Mathlib.Omega.{arith}
+use mathlib.Core.Path.{ap, ◌≡◌, sym, ◌∙◌}
+use mathlib.Core.Bool.{true}
+use borrow.Author.Tests.{not-false}
+use Rattle.frames.specs.Reading.{size, text_size}
+use Rattle.frames.specs.ReadingLaws.{size-lt}
+use Rattle.frames.specs.Fields.{one_frame}
+use Rattle.frames.specs.WritingLaws.{whole, text-bytes, written-not, written-short, written-whole}
+use Rattle.frame_writer.proofs.write.Goals as goal
+
+pub returns-then-not-is_frame : goal.returns-then-not-is_frame
+returns-then-not-is_frame c =
+    written-not c.args.f c.args.room.now (sym c.is_frame.ensures ∙ c.if-not-is_frame.true)
+
+pub size-requires : goal.size-requires
+size-requires c =
+    omega (arith, whole c.args.f (sym c.is_frame.ensures ∙ c.if-not-is_frame.false))
+
+pub text_size-bytes-requires : goal.text_size-bytes-requires
+text_size-bytes-requires c =
+    let facts = whole c.args.f (sym c.is_frame.ensures ∙ c.if-not-is_frame.false) in
+    omega (arith, c.size.ensures, size-lt c.args.f.kind c.args.f.count (omega arith) (omega arith))
+
+pub returns-then-room-bytes : goal.returns-then-room-bytes
+returns-then-room-bytes c =
+    written-short c.args.f c.args.room.now (sym c.is_frame.ensures ∙ c.if-not-is_frame.false) (omega (arith, c.text_size-bytes.ensures ∙ ap text_size c.size.ensures))
+
+pub put_frame-requires : goal.put_frame-requires
+put_frame-requires c =
+    record { frame = sym c.is_frame.ensures ∙ c.if-not-is_frame.false; fits = omega (arith, text-bytes c.args.f (sym c.is_frame.ensures ∙ c.if-not-is_frame.false), c.text_size-bytes.ensures ∙ ap text_size c.size.ensures) }
+
+pub returns : goal.returns
+returns c =
+    written-whole c.args.f c.args.room.now (sym c.is_frame.ensures ∙ c.if-not-is_frame.false) (omega (arith, c.text_size-bytes.ensures ∙ ap text_size c.size.ensures)) (c.text_size-bytes.ensures ∙ ap text_size c.size.ensures) c.put_frame.ensures
