@@ -1,5 +1,6 @@
 // What looks at a record, or makes the next one, and writes nothing.
 #![tactic(auto)]
+
 mod decisions;
 mod good;
 mod roles;

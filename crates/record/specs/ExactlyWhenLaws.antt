@@ -308,10 +308,14 @@ step-first : (e : Event) (b : Record) (terms orders journal messages : List ℕ)
     → comes_to (record { event = e; box = b; terms = terms; orders = orders; journal = journal; messages = messages }) (step e (state_of b terms orders))
     ≡ first behind (record { event = e; box = b; terms = terms; orders = orders; journal = journal; messages = messages })
 unfolding step first
-step-first times_out b terms orders journal messages h = timeout_checks _ (state_of b terms orders)
-step-first (takes_order o) b terms orders journal messages h = order_checks _ o (state_of b terms orders) h
-step-first is_prompted b terms orders journal messages h = prompt_checks _ (state_of b terms orders)
-step-first (receives bytes) b terms orders journal messages h = receive_checks _ bytes (state_of b terms orders)
+step-first times_out b terms orders journal messages h =
+    timeout_checks (record { event = times_out; box = b; terms = terms; orders = orders; journal = journal; messages = messages }) (state_of b terms orders)
+step-first (takes_order o) b terms orders journal messages h =
+    order_checks (record { event = takes_order o; box = b; terms = terms; orders = orders; journal = journal; messages = messages }) o (state_of b terms orders) h
+step-first is_prompted b terms orders journal messages h =
+    prompt_checks (record { event = is_prompted; box = b; terms = terms; orders = orders; journal = journal; messages = messages }) (state_of b terms orders)
+step-first (receives bytes) b terms orders journal messages h =
+    receive_checks (record { event = receives bytes; box = b; terms = terms; orders = orders; journal = journal; messages = messages }) bytes (state_of b terms orders)
 
 -- **A call answers the number of the first row that holds, in 01's order of checking.**
 pub answers-first : (a : Asked) → (left_by a).answer.refusal ≡ first checked a

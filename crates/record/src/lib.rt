@@ -1,5 +1,6 @@
 // 01's record as structs, its constructor, what an event decides of it, and what a step answers: `specs/` says what they mean.
 #![tactic(auto)]
+
 ghost use Rattle.std.specs.Prelude.{◌≡◌};
 ghost use Rattle.raft.specs.Record.{zeros, fresh};
 ghost use Rattle.record.specs.Calls.{record_of};

@@ -1,5 +1,6 @@
 // The rules of 01 that need a few numbers or the lent log alone, each one small function: the crates above put them together.
 #![tactic(auto)]
+
 mod answers;
 mod entries;
 mod mask;
