@@ -1,5 +1,6 @@
 // What a leader does beyond a role's change: its commit, an entry more, winning, and what an append answer tells.
 #![tactic(auto)]
+
 mod commit;
 mod entries;
 mod progress;

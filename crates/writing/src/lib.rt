@@ -1,5 +1,6 @@
 // The journal's head and lines, and what a box sends, written into room that the caller lends.
 #![tactic(auto)]
+
 mod appends;
 mod journal_lines;
 mod requests;
