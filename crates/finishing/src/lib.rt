@@ -1,5 +1,6 @@
 // One way to finish a step: a decision's refusal, the room, the new entries, then the journal line and the messages. Until both fit nothing is touched.
 #![tactic(auto)]
+
 mod adding;
 mod bytes;
 mod measuring;
