@@ -1,5 +1,6 @@
 // The events that need no message, on a record that is known to be good. Each decides first; `finishing` then writes.
 #![tactic(auto)]
+
 mod order;
 mod prompt;
 mod starting;
