@@ -133,16 +133,11 @@ module _ (b : Record) (terms orders : List ℕ) (from index commit : ℕ) (all :
       unfolding decided messages_of Aimed cuts_committed joining
       accept-adds next end e o c l with-log-of =
           record {
-            comes = rw (
-              with-log-of (entries_of terms orders 0 place ++ listed all (place - index) (count - (place - index)))
-                  ∙ follows_with (entries_of terms orders 0 place ++ listed all (place - index) (count - (place - index))),
-              added-log,
-              more,
-              ← found,
-              le-ltb place b.commit c,
-              long,
-              e,
-            );
+            comes =
+                ap (λ (x : State). done x (append_answer x.me from x.term 1 end ∷ []))
+                (with-log-of (entries_of terms orders 0 place ++ listed all (place - index) (count - (place - index)))
+                ∙ follows_with (entries_of terms orders 0 place ++ listed all (place - index) (count - (place - index))))
+                ∙ rw (added-log, more, ← found, le-ltb place b.commit c, long, e);
             low = place_inside;
             part = omega (arith, place-most);
             few = o.few;

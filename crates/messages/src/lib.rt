@@ -1,5 +1,6 @@
 // The four kinds of message, on a record that is known to be good: each decides; any bytes are read, judged and finished in `receive`.
 #![tactic(auto)]
+
 mod append;
 mod append_answer;
 mod deliver;
