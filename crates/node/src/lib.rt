@@ -1,5 +1,6 @@
 // A box: a constructor and one method for each event, on any record and any bytes. The log is lent by the caller, as terms and orders, entry i at place i-1.
 #![tactic(auto)]
+
 ghost use Rattle.std.specs.Prelude.{◌≡◌};
 ghost use Rattle.raft.specs.Event.{times_out, takes_order, is_prompted, receives};
 ghost use Rattle.raft.specs.Record.{fresh};
