@@ -1,5 +1,6 @@
 // A box's journal, opened: whole at once, or line by line for one that is longer than memory.
 #![tactic(auto)]
+
 mod blocks;
 mod lines;
 mod whole;
