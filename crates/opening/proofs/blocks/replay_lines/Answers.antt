@@ -11,8 +11,8 @@ pub returns-then-end-at : goal.returns-then-end-at
 returns-then-end-at c =
     counted_end c.loop-at.invariant c.line_end-end.ensures c.if-end-at.true
 
-pub slice-bounds-replay-line-end : goal.slice-bounds-replay-line-end
-slice-bounds-replay-line-end c =
+pub slice_bounds-replay_line-end : goal.slice_bounds-replay_line-end
+slice_bounds-replay_line-end c =
     end_inside _ c.loop-at.invariant.inside c.line_end-end.ensures
 
 pub returns-then-one-ne0 : goal.returns-then-one-ne0
@@ -21,7 +21,7 @@ returns-then-one-ne0 c =
 
 pub overflow_add-lines : goal.overflow_add-lines
 overflow_add-lines c =
-    omega (arith, c.loop-at.invariant.few, c.loop-at.invariant.inside, c.well-formed)
+    omega (arith, c.loop-at.invariant.few, c.loop-at.invariant.inside, c.well_formed)
 
 pub loop-at-smaller : goal.loop-at-smaller
 loop-at-smaller c =

@@ -14,7 +14,7 @@ pub record Copied (terms₀ orders₀ terms-made orders-made : List ℕ) (last :
   pub orders-so-far : orders ≡ over orders₀ 0 (take i orders-made)
 
 abbrev pub invariant-loop-i : goal.invariant-loop-i
-invariant-loop-i l = Copied l.initial.terms l.initial.orders l.terms-made l.orders-made l.last l.terms l.orders l.i
+invariant-loop-i l = Copied l.initial.terms l.initial.orders l.terms_made l.orders_made l.last l.terms l.orders l.i
 
 abbrev pub decreases-loop-i : goal.decreases-loop-i
 decreases-loop-i l = l.last - l.i

@@ -13,8 +13,8 @@ pub returns-then-end-at : goal.returns-then-end-at
 returns-then-end-at c =
     reached_end c.loop-at.invariant c.line_end-end.ensures c.if-end-at.true
 
-pub slice-bounds-replay-line-end : goal.slice-bounds-replay-line-end
-slice-bounds-replay-line-end c =
+pub slice_bounds-replay_line-end : goal.slice_bounds-replay_line-end
+slice_bounds-replay_line-end c =
     end_inside _ c.loop-at.invariant.inside c.line_end-end.ensures
 
 pub shape_of-terms-then-one-ne0 : goal.shape_of-terms-then-one-ne0
