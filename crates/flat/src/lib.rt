@@ -1,5 +1,6 @@
 // Messages and boxes as plain numbers, there and back: what C and Rust hand over.
 #![tactic(auto)]
+
 mod boxes;
 mod message;
 

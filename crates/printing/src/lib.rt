@@ -1,5 +1,6 @@
 // What is printed: a number, a refusal, and a record as text.
 #![tactic(auto)]
+
 mod looking;
 mod putting;
 

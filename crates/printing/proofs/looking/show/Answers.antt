@@ -1,0 +1,21 @@
+-- The first line, and the log behind it (`shown-put`).
+use native.Mathlib.Omega.{arith}
+use Rattle.printing.specs.LookingLaws.{shown-put}
+use Rattle.printing.proofs.looking.show.Goals as goal
+
+pub put_first-first-requires : goal.put_first-first-requires
+put_first-first-requires c =
+    omega (arith, c.requires.wide)
+
+pub put_log-requires : goal.put_log-requires
+put_log-requires c =
+    record {
+      terms_hold = omega (arith, c.requires.fits, c.requires.terms_long);
+      orders_hold = omega (arith, c.requires.fits, c.requires.orders_long);
+      wide = omega (arith, c.requires.fits, c.requires.wide, c.put_first-first.ensures.upper_bound, c.put_first-first.auto.room);
+    }
+
+pub returns : goal.returns
+returns c =
+    let all = shown-put c.args.room.now c.args.bytes c.args.n c.args.terms.now c.args.orders.now c.requires.wide c.requires.fits c.put_first-first.ensures.puts c.put_first-first.ensures.upper_bound c.put_log.ensures in
+    record { puts = all; upper_bound = omega (arith, c.put_first-first.ensures.upper_bound, c.requires.fits) }
