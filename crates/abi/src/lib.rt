@@ -1,6 +1,7 @@
 // The library's functions for C and Rust, on numbers and byte slices alone.
 // A message goes as 17 numbers, a box as 22: `flat` says which.
 #![tactic(auto)]
+
 mod boxes;
 mod journals;
 mod orders;

@@ -1,5 +1,6 @@
 // A box on lines of text: 01's small program but for its reading and writing.
 #![tactic(auto)]
+
 mod blocks;
 mod lines;
 
