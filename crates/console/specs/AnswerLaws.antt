@@ -12,10 +12,10 @@ use Rattle.raft.specs.Journal.{journaled}
 use Rattle.raft.specs.Lent.{terms_of, orders_of}
 use Rattle.raft.specs.Outcome.{Outcome, done, refuse}
 use Rattle.raft.specs.Event.{Event, step}
-use Rattle.raft.specs.StepLaws.{no_done}
-use Rattle.raft.specs.RefusalLaws.{Numbered, numbers, by_test, at_least_one}
-use Rattle.raft.specs.EventLaws.{step-numbered}
-use Rattle.journal.specs.LongestLaws.{Longest, longest_line, longest_messages, step-longest}
+use Rattle.raft.proofs.StepLaws.{no_done}
+use Rattle.raft.proofs.RefusalLaws.{Numbered, numbers, by_test, at_least_one}
+use Rattle.raft.proofs.EventLaws.{step-numbered}
+use Rattle.journal.proofs.LongestLaws.{Longest, longest_line, longest_messages, step-longest}
 use Rattle.record.specs.declared.Record.{Record}
 use Rattle.record.specs.declared.Step.{Step}
 use Rattle.record.specs.SizeLaws.{over-next}

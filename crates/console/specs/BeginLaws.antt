@@ -9,7 +9,7 @@ use Rattle.digits.specs.Digits.{run}
 use Rattle.digits.specs.Room.{over}
 use Rattle.digits.specs.Tests.{and_left, and_right}
 use Rattle.frames.specs.Reading.{is_line, version, kind}
-use Rattle.frames.specs.ReadingLaws.{line-run}
+use Rattle.frames.proofs.ReadingLaws.{line-run}
 use Rattle.raft.specs.Record.{is_membership, fresh}
 use Rattle.raft.specs.Journal.{head}
 use Rattle.journal.specs.Lines.{box_in, mask_in, head_shaped}

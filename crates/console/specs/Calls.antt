@@ -6,7 +6,7 @@ use Rattle.raft.specs.Record.{fresh, good}
 use Rattle.raft.specs.Lent.{terms_of, orders_of}
 use Rattle.raft.specs.Journal.{head}
 use Rattle.raft.specs.Outcome.{Outcome, done, refuse}
-use Rattle.journal.specs.LongestLaws.{longest_line, longest_messages}
+use Rattle.journal.proofs.LongestLaws.{longest_line, longest_messages}
 use Rattle.journal.specs.Lines.{lines, box_in, mask_in, head_shaped}
 use Rattle.record.specs.declared.Record.{Record}
 use Rattle.record.specs.declared.Started.{Started}

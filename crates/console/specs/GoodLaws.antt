@@ -5,13 +5,13 @@ use Rattle.std.proofs.Math.Path.{◌≡◌, sym, ap}
 use Rattle.digits.specs.RoomLaws.{length_over}
 use Rattle.frames.specs.Message.{Message}
 use Rattle.raft.specs.Record.{State, good}
-use Rattle.raft.specs.RecordLaws.{good-facts}
+use Rattle.raft.proofs.RecordLaws.{good-facts}
 use Rattle.raft.specs.Lent.{terms_of, orders_of}
 use Rattle.raft.specs.LentLaws.{terms_long, orders_long}
 use Rattle.raft.specs.Outcome.{Outcome, done, refuse}
 use Rattle.raft.specs.Event.{step}
-use Rattle.raft.specs.StepLaws.{no_done}
-use Rattle.raft.specs.EventLaws.{step-good}
+use Rattle.raft.proofs.StepLaws.{no_done}
+use Rattle.raft.proofs.EventLaws.{step-good}
 use Rattle.record.specs.declared.Record.{Record}
 use Rattle.record.specs.Calls.{state_of, Ready}
 use Rattle.record.specs.SameLaws.{next-lent}

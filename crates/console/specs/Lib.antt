@@ -6,5 +6,3 @@ pub mod GoodLaws
 pub mod AnswerLaws
 pub mod BeginLaws
 pub mod BlockLaws
-pub mod SessionLaws
-pub mod RunLaws

@@ -5,7 +5,7 @@ use Rattle.digits.specs.Digits.{run}
 use Rattle.digits.specs.Tests.{and_left, and_right}
 use Rattle.frames.specs.Message.{line_feed}
 use Rattle.frames.specs.Reading.{is_line}
-use Rattle.frames.specs.ReadingLaws.{line-run}
+use Rattle.frames.proofs.ReadingLaws.{line-run}
 use Rattle.raft.specs.Record.{State, good}
 use Rattle.raft.specs.Outcome.{refuse}
 use Rattle.raft.specs.Event.{times_out, takes_order, is_prompted, receives, step}

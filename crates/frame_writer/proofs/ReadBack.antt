@@ -19,7 +19,7 @@ use Rattle.frames.specs.Message.{text}
 use Rattle.frames.specs.Reading.{reading}
 use Rattle.frames.specs.Fields.{no_entry, message_of, one_frame, answer}
 use Rattle.frames.specs.Writing.{Wrote, written}
-use Rattle.frames.specs.OneSpelling.{Typed, read_back}
+use Rattle.frames.proofs.OneSpelling.{Typed, read_back}
 use Rattle.frames.specs.contracts.Entry as entry
 use Rattle.frames.specs.contracts.Fields as fields
 use Rattle.frame_writer.proofs.write.Kinds as kinds

@@ -7,7 +7,4 @@ pub mod Fields
 pub mod Writing
 pub mod Clauses
 pub mod Laws
-pub mod ReadingLaws
 pub mod WritingLaws
-pub mod Spelling
-pub mod OneSpelling

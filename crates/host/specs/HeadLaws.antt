@@ -5,12 +5,12 @@ use Rattle.std.proofs.Common.{arith, sym, ap, ◌∙◌, append-nil, inl, inr, l
 use Rattle.digits.specs.Room.{over}
 use Rattle.raft.specs.Record.{fresh, is_membership}
 use Rattle.raft.specs.Journal.{head}
-use Rattle.journal.specs.LinesLaws.{lines_none}
-use Rattle.journal.specs.LineSpelling.{head_nine, head-whole}
+use Rattle.journal.proofs.LinesLaws.{lines_none}
+use Rattle.journal.proofs.LineSpelling.{head_nine, head-whole}
 use Rattle.journal.specs.Opening.{opened, headless, open_lines, opening}
-use Rattle.journal.specs.OpeningLaws.{fresh-restarted}
-use Rattle.journal.specs.LifeLaws.{Life, life_opens}
-use Rattle.journal.specs.TornLaws.{cut-whole}
+use Rattle.journal.proofs.OpeningLaws.{fresh-restarted}
+use Rattle.journal.proofs.LifeLaws.{Life, life_opens}
+use Rattle.journal.proofs.TornLaws.{cut-whole}
 
 -- The first bytes of a text over the first bytes of the same text: the more of the two.
 pub laid_over : (text : List ℕ) (j k : ℕ)

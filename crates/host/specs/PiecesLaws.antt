@@ -11,15 +11,15 @@ use Rattle.std.proofs.Math.Seq.{drop-append-add}
 use Rattle.std.proofs.lemmas.Bool.{eqb-false}
 use Rattle.raft.specs.Record.{State, fresh}
 use Rattle.raft.specs.Lent.{entries_of}
-use Rattle.raft.specs.SendLaws.{All}
+use Rattle.raft.proofs.SendLaws.{All}
 use Rattle.record.specs.declared.Record.{Record}
 use Rattle.record.specs.Calls.{state_of, record_of}
 use Rattle.journal.specs.Lines.{lines, whole_bytes, mask_in}
-use Rattle.journal.specs.LinesLaws.{Whole, strung, split, split_lines, lines-first, counted-line, whole-lines, whole-most}
-use Rattle.journal.specs.LineSpelling.{line-whole, head-whole}
+use Rattle.journal.proofs.LinesLaws.{Whole, strung, split, split_lines, lines-first, counted-line, whole-lines, whole-most}
+use Rattle.journal.proofs.LineSpelling.{line-whole, head-whole}
 use Rattle.journal.specs.Opening.{Replayed, next, breaks, replayed, opened, headless, broken, go_on, replay, is_head, open_lines, opening}
-use Rattle.journal.specs.OpeningLaws.{is_head_exactly}
-use Rattle.journal.specs.OpeningExactly.{next_exactly}
+use Rattle.journal.proofs.OpeningLaws.{is_head_exactly}
+use Rattle.journal.proofs.OpeningExactly.{next_exactly}
 use Rattle.opening.specs.declared.Replayed as answers
 use Rattle.opening.specs.declared.Block.{Block}
 use Rattle.opening.specs.Calls.{Replaying, replaying, Replays, heading, Blocks, counted, stopped, replay_each, replaying_lines, ReplaysLines}

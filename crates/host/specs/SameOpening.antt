@@ -2,7 +2,7 @@
 -- whole file answers, into whatever arrays. Assumes nothing.
 use Rattle.std.specs.Prelude.{ℕ, suc, ◌+◌, ◌≤◌, ◌≡◌, List, [], length, take, drop}
 use Rattle.journal.specs.Lines.{lines}
-use Rattle.journal.specs.LinesLaws.{Whole}
+use Rattle.journal.proofs.LinesLaws.{Whole}
 use Rattle.record.specs.declared.Record.{Record}
 use Rattle.record.specs.Calls.{state_of}
 use Rattle.opening.specs.declared.Replayed.{Replayed}

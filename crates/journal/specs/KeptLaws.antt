@@ -8,7 +8,7 @@ use Rattle.frames.specs.Limits.{entry_limit}
 use Rattle.raft.specs.Record.{term_at}
 use Rattle.raft.specs.Journal.{same_entry, kept}
 use Rattle.raft.specs.Append.{stop, passes, joined}
-use Rattle.raft.specs.JoinLaws.{kept_self, kept_more, joined_same, joined-long, kept-joined}
+use Rattle.raft.proofs.JoinLaws.{kept_self, kept_more, joined_same, joined-long, kept-joined}
 
 -- entries with the same term and order are the same
 same_entries : (x y : Entry) → same_entry x y ≡ true → x ≡ y

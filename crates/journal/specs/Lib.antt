@@ -3,17 +3,7 @@
 pub mod Lines
 pub mod Opening
 pub mod Runs
-pub mod LinesLaws
-pub mod LineSpelling
-pub mod OpeningLaws
 pub mod KeptLaws
 pub mod StepMoves
-pub mod StepLine
 pub mod Longest
-pub mod LongestLaws
-pub mod ReplayLaws
-pub mod OpeningExactly
-pub mod TornLaws
-pub mod DiskLaws
-pub mod LifeLaws
 pub mod Readings

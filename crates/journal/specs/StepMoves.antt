@@ -19,11 +19,11 @@ use Rattle.raft.specs.Append.{lacks, following, joining}
 use Rattle.raft.specs.AppendAnswer.{heard}
 use Rattle.raft.specs.Receive.{sender, term_of, deliver, receive}
 use Rattle.raft.specs.Event.{Event, times_out, takes_order, is_prompted, receives, step}
-use Rattle.raft.specs.RecordLaws.{Good, self_voted}
-use Rattle.raft.specs.StepLaws.{winner-ends, timeout-ends, order-ends, prompt-ends}
-use Rattle.raft.specs.JoinLaws.{kept_self, kept_more, lacks-not}
-use Rattle.raft.specs.ReceiveLaws.{taken-by, taken-least, taken-keeps, Ends, Arrives, receive-ends, sent-by, offer-facts}
-use Rattle.raft.specs.ReceiveLaws.{vote_request-ends, vote_answer-ends, append-ends, append_answer-ends}
+use Rattle.raft.proofs.RecordLaws.{Good, self_voted}
+use Rattle.raft.proofs.StepLaws.{winner-ends, timeout-ends, order-ends, prompt-ends}
+use Rattle.raft.proofs.JoinLaws.{kept_self, kept_more, lacks-not}
+use Rattle.raft.proofs.ReceiveLaws.{taken-by, taken-least, taken-keeps, Ends, Arrives, receive-ends, sent-by, offer-facts}
+use Rattle.raft.proofs.ReceiveLaws.{vote_request-ends, vote_answer-ends, append-ends, append_answer-ends}
 use Rattle.journal.specs.KeptLaws.{joined-few}
 
 -- What a step may make of a record's stored part: in term 0 nothing.

@@ -9,7 +9,7 @@ use Rattle.raft.specs.Commit.{settle}
 use Rattle.raft.specs.Led.{led}
 use Rattle.raft.specs.Order.{ordered, blank}
 use Rattle.raft.specs.Winning.{leading, won}
-use Rattle.raft.specs.StepLaws.{good-leading, winner_full, winner-room}
+use Rattle.raft.proofs.StepLaws.{good-leading, winner_full, winner-room}
 use Rattle.raft.specs.LentLaws.{length-entries_of}
 use Rattle.record.specs.declared.Record.{Record}
 use Rattle.record.specs.declared.Send.{Send}

@@ -2,7 +2,7 @@
 use Rattle.std.specs.Prelude.{ℕ, ◌+◌, ◌≤◌, ◌<◌, ◌≡◌, List, length}
 use Rattle.frames.specs.Limits.{IsBox, log_limit}
 use Rattle.raft.specs.AppendAnswer.{match_after}
-use Rattle.raft.specs.CommitLaws.{Ranged}
+use Rattle.raft.proofs.CommitLaws.{Ranged}
 use Rattle.raft.specs.Record.{candidate, leader, of_box}
 use Rattle.record.specs.declared.Record.{Record}
 use Rattle.record.specs.Calls.{state_of, Ready}

@@ -6,7 +6,7 @@ ghost use Rattle.frames.specs.Limits.{IsBox};
 ghost use Rattle.raft.specs.Majority.{bit};
 ghost use Rattle.raft.specs.Record.{term_at};
 ghost use Rattle.raft.specs.Commit.{matches, if_matches, matching, is_matched, settle};
-ghost use Rattle.raft.specs.CommitLaws.{larger_matched, largest_matched};
+ghost use Rattle.raft.specs.LargestMatch.{larger_matched, largest_matched};
 ghost use Rattle.raft.specs.Order.{ordered};
 ghost use Rattle.record.specs.Calls.{entries_of, with_entries, state_of};
 ghost use Rattle.record.specs.Deciding.{Found, Tested};

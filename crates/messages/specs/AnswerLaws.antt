@@ -7,14 +7,14 @@ use Rattle.std.proofs.Math.Dec.{eqb}
 use Rattle.frames.specs.Limits.{log_limit}
 use Rattle.record.specs.declared.Record.{Record}
 use Rattle.raft.specs.Record.{State, leader, last_index, of_box}
-use Rattle.raft.specs.RecordLaws.{facts-good, leader-sent}
+use Rattle.raft.proofs.RecordLaws.{facts-good, leader-sent}
 use Rattle.raft.specs.LentLaws.{length-entries_of}
 use Rattle.raft.specs.Commit.{settle}
-use Rattle.raft.specs.CommitLaws.{Ranged, ranged}
+use Rattle.raft.proofs.CommitLaws.{Ranged, ranged}
 use Rattle.raft.specs.Sends.{append_to}
 use Rattle.raft.specs.Outcome.{done, refuse}
 use Rattle.raft.specs.AppendAnswer.{match_after, heard, sends_again, answered, hear, on_append_answer}
-use Rattle.raft.specs.ReceiveLaws.{good-heard}
+use Rattle.raft.proofs.ReceiveLaws.{good-heard}
 use Rattle.record.specs.Calls.{state_of}
 use Rattle.record.specs.Deciding.{OtherBox}
 use Rattle.record.specs.GoodLaws.{ready-good, ready-last}

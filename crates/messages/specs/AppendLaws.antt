@@ -17,7 +17,7 @@ use Rattle.raft.specs.Journal.{kept}
 use Rattle.raft.specs.LentLaws.{length-entries_of, take-entries}
 use Rattle.raft.specs.Outcome.{Outcome, done, refuse}
 use Rattle.raft.specs.Append.{lacks, agreed, stop, passes, joined, cuts_committed, following, commit_after, joining, accept, on_append}
-use Rattle.raft.specs.JoinLaws.{stop-most, stop-offered, joined_same, joined-cut, kept-joined}
+use Rattle.raft.proofs.JoinLaws.{stop-most, stop-offered, joined_same, joined-cut, kept-joined}
 use Rattle.record.specs.Calls.{entries_of, with_entries, state_of}
 use Rattle.record.specs.Deciding.{messages_of, decided, Aimed, Decides, Becomes}
 use Rattle.record.specs.DecidingLaws.{becomes_lent}

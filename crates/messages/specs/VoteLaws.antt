@@ -8,13 +8,13 @@ use Rattle.frames.specs.Message.{vote_answer}
 use Rattle.record.specs.declared.Record.{Record}
 use Rattle.raft.specs.Majority.{bit, majority}
 use Rattle.raft.specs.Record.{State, candidate, term_at, with_vote, good}
-use Rattle.raft.specs.RecordLaws.{facts-good}
+use Rattle.raft.proofs.RecordLaws.{facts-good}
 use Rattle.raft.specs.LentLaws.{length-entries_of}
 use Rattle.raft.specs.Outcome.{done}
 use Rattle.raft.specs.Winning.{won}
 use Rattle.raft.specs.VoteRequest.{is_granted, grants, voting, asked, on_vote_request}
 use Rattle.raft.specs.VoteAnswer.{adding, counted, counts, on_vote_answer}
-use Rattle.raft.specs.ReceiveLaws.{other-held, good-adding}
+use Rattle.raft.proofs.ReceiveLaws.{other-held, good-adding}
 use Rattle.record.specs.Calls.{entries_of, state_of}
 use Rattle.record.specs.GoodLaws.{ready-good}
 use Rattle.messages.specs.Required.{From}

@@ -11,7 +11,7 @@ use Rattle.raft.specs.Sends.{texts}
 use Rattle.raft.specs.Journal.{journaled}
 use Rattle.raft.specs.Outcome.{done}
 use Rattle.raft.specs.Event.{Event, step}
-use Rattle.raft.specs.EventLaws.{step-good}
+use Rattle.raft.proofs.EventLaws.{step-good}
 use Rattle.raft.specs.Exactly.{Exactly}
 use Rattle.record.specs.declared.Handed.{Handed}
 use Rattle.record.specs.Calls.{state_of, Called, Begun, handed}

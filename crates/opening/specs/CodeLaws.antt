@@ -13,8 +13,8 @@ use Rattle.frames.specs.Reading.{text_size, is_line, version, kind, entries_at}
 use Rattle.frames.specs.Fields.{listed, places}
 use Rattle.frames.specs.Clauses.{four}
 use Rattle.frames.specs.Laws.{length-listed}
-use Rattle.frames.specs.ReadingLaws.{line-run, listed-places, length-entries}
-use Rattle.raft.specs.SendLaws.{All}
+use Rattle.frames.proofs.ReadingLaws.{line-run, listed-places, length-entries}
+use Rattle.raft.proofs.SendLaws.{All}
 use Rattle.raft.specs.Record.{term_at, is_membership, is_vote}
 use Rattle.raft.specs.LentLaws.{length-entries_of}
 use Rattle.record.specs.declared.Record.{Record}
@@ -22,7 +22,7 @@ use Rattle.record.specs.Calls.{entries_of, state_of}
 use Rattle.opening.specs.declared.LineFields.{LineFields}
 use Rattle.journal.specs.Lines.{box_in, mask_in, count_in, line_shaped, line_in, head_shaped}
 use Rattle.journal.specs.Opening.{is_head, allows}
-use Rattle.journal.specs.LinesLaws.{Feedless, Whole}
+use Rattle.journal.proofs.LinesLaws.{Feedless, Whole}
 use Rattle.text.specs.Lines.{first_line}
 use Rattle.opening.specs.Calls.{line_of, allows_numbers}
 

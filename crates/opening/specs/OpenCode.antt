@@ -14,7 +14,7 @@ use Rattle.text.specs.Lines.{first_line}
 use Rattle.text.specs.LinesLaws.{first-most}
 use Rattle.raft.specs.Majority.{holds}
 use Rattle.raft.specs.Record.{fresh}
-use Rattle.raft.specs.RecordLaws.{at-box, member-facts}
+use Rattle.raft.proofs.RecordLaws.{at-box, member-facts}
 use Rattle.raft.specs.Lent.{entries_of, terms_of, orders_of}
 use Rattle.raft.specs.LentLaws.{terms_are, orders_are}
 use Rattle.record.specs.declared.Record.{Record}

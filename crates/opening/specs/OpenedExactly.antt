@@ -9,7 +9,7 @@ use Rattle.record.specs.Calls.{state_of}
 use Rattle.record.specs.SameLaws.{next-lent}
 use Rattle.journal.specs.Lines.{lines}
 use Rattle.journal.specs.Opening.{Opened, opened, headless, broken, opening}
-use Rattle.journal.specs.OpeningExactly.{Headed, Breaks, headless_exactly, headless-when, broken_exactly, broken-when}
+use Rattle.journal.proofs.OpeningExactly.{Headed, Breaks, headless_exactly, headless-when, broken_exactly, broken-when}
 use Rattle.opening.specs.declared.Opened as answers
 use Rattle.opening.specs.Calls.{Opening, opening_by, opens, Opens}
 

@@ -12,7 +12,7 @@ use Rattle.frames.specs.Limits.{log_limit, entry_limit}
 use Rattle.frames.specs.Fields.{listed}
 use Rattle.frames.specs.Clauses.{four}
 use Rattle.frames.specs.Laws.{length-listed}
-use Rattle.frames.specs.ReadingLaws.{length-entries}
+use Rattle.frames.proofs.ReadingLaws.{length-entries}
 use Rattle.text.specs.Lines.{first_line}
 use Rattle.text.specs.LinesLaws.{first-most, end_inside}
 use Rattle.raft.specs.Record.{State}
@@ -23,7 +23,7 @@ use Rattle.record.specs.declared.Record.{Record}
 use Rattle.record.specs.Calls.{state_of, record_of}
 use Rattle.record.specs.SameLaws.{record_same, lent_same, written-log}
 use Rattle.journal.specs.Lines.{lines, whole_bytes, count_in, line_shaped, line_in}
-use Rattle.journal.specs.LinesLaws.{lines_none, lines-first, counted_none, counted-line}
+use Rattle.journal.proofs.LinesLaws.{lines_none, lines-first, counted_none, counted-line}
 use Rattle.journal.specs.Opening.{restarted, is_of_box, term_holds, vote_is, vote_stays, kept_holds, count_holds, entries_hold, allows, after}
 use Rattle.journal.specs.Opening.{Replayed, next, breaks, replayed, Opened, go_on, replay}
 use Rattle.opening.specs.declared.LineFields.{LineFields}

@@ -3,6 +3,7 @@ pub mod Majority
 pub mod Newer
 pub mod Record
 pub mod Commit
+pub mod LargestMatch
 pub mod Sends
 pub mod Journal
 pub mod Outcome
@@ -19,19 +20,6 @@ pub mod AppendAnswer
 pub mod Receive
 pub mod Event
 pub mod Lent
-pub mod JoinLaws
 pub mod LentLaws
-pub mod RecordLaws
-pub mod MajorityLaws
-pub mod CommitLaws
-pub mod StepLaws
-pub mod WinningLaws
-pub mod SendLaws
-pub mod FitLaws
-pub mod ReceiveLaws
-pub mod ReceiveSends
-pub mod RefusalLaws
-pub mod EventLaws
-pub mod CommitRises
 pub mod Exactly
 pub mod Readings

@@ -7,10 +7,11 @@ use Rattle.frames.specs.Limits.{log_limit}
 use Rattle.raft.specs.Record.{State, leader, is_other, term_at}
 use Rattle.raft.specs.Majority.{bit, majority}
 use Rattle.raft.specs.Commit.{settled, settle, matches, matching, is_matched}
-use Rattle.raft.specs.CommitLaws.{largest_matched, largest_low, settled_quick, Ranged, ranged}
+use Rattle.raft.proofs.CommitLaws.{largest_low, settled_quick, Ranged, ranged}
+use Rattle.raft.specs.LargestMatch.{largest_matched}
 use Rattle.raft.specs.Order.{ordered}
-use Rattle.raft.specs.RecordLaws.{facts-good}
-use Rattle.raft.specs.StepLaws.{good-ordered}
+use Rattle.raft.proofs.RecordLaws.{facts-good}
+use Rattle.raft.proofs.StepLaws.{good-ordered}
 use Rattle.raft.specs.LentLaws.{length-entries_of}
 use Rattle.record.specs.Calls.{entries_of, with_entries, state_of, Ready}
 use Rattle.record.specs.GoodLaws.{ready-good}

@@ -8,7 +8,7 @@ use Rattle.record.specs.declared.Record.{Record}
 use Rattle.record.specs.declared.Send.{Send}
 use Rattle.record.specs.declared.Decision.{Decision}
 use Rattle.raft.specs.Record.{State, is_other}
-use Rattle.raft.specs.RecordLaws.{Good}
+use Rattle.raft.proofs.RecordLaws.{Good}
 use Rattle.raft.specs.Sends.{append_to, vote_requests, appends}
 use Rattle.raft.specs.Journal.{kept}
 use Rattle.raft.specs.Outcome.{Outcome, done, refuse}

@@ -9,13 +9,13 @@ use Rattle.record.specs.declared.Record.{Record}
 use Rattle.record.specs.declared.Send.{Send}
 use Rattle.record.specs.declared.Decision.{Decision}
 use Rattle.raft.specs.Record.{State, good}
-use Rattle.raft.specs.RecordLaws.{Good, good-facts, facts-good}
+use Rattle.raft.proofs.RecordLaws.{Good, good-facts, facts-good}
 use Rattle.raft.specs.Journal.{kept}
-use Rattle.raft.specs.JoinLaws.{kept_self, kept_more}
+use Rattle.raft.proofs.JoinLaws.{kept_self, kept_more}
 use Rattle.raft.specs.Sends.{appends}
 use Rattle.raft.specs.Outcome.{Outcome, done, refuse}
 use Rattle.raft.specs.Event.{Event, step}
-use Rattle.raft.specs.EventLaws.{step-good}
+use Rattle.raft.proofs.EventLaws.{step-good}
 use Rattle.raft.specs.LentLaws.{length-entries_of}
 use Rattle.record.specs.Calls.{entries_of, with_entries, state_of, run, Ready}
 use Rattle.record.specs.Deciding.{messages_of, one_entry, log_after, after, decided, Aimed, Decides, Sound, Becomes}

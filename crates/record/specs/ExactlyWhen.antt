@@ -1,6 +1,6 @@
 -- 01, 'When the box says no', to be held beside the table: each row's condition in 01's words, the order in which the rows are checked, and of each row
 -- that its number is answered exactly when the row holds and none of those that are checked before it. That all of it holds is proved in `ExactlyWhenLaws`;
--- rows 10 and 11 are opening's, in `journal/specs/OpeningExactly`. Assumes nothing.
+-- rows 10 and 11 are opening's, in `journal/proofs/OpeningExactly`. Assumes nothing.
 use Rattle.std.specs.Prelude.{ℕ, ◌≡◌, Bool, true, false, not, ◌&&◌, ◌||◌, List, [], ◌∷◌, eqb, ltb, leb, length}
 use Rattle.frames.specs.declared.Fields.{Fields}
 use Rattle.frames.specs.Limits.{log_limit}

@@ -11,7 +11,7 @@ use Rattle.frames.specs.Fields.{message_of, one_frame}
 use Rattle.frames.specs.Writing.{Wrote, written}
 use Rattle.raft.specs.Majority.{bit, majority, holds}
 use Rattle.raft.specs.Record.{State, last_index, is_other, is_membership, good}
-use Rattle.raft.specs.RecordLaws.{good-facts}
+use Rattle.raft.proofs.RecordLaws.{good-facts}
 use Rattle.raft.specs.Timeout.{last_of_terms, timeout, standing}
 use Rattle.raft.specs.Order.{is_full, blank, order}
 use Rattle.raft.specs.Prompt.{prompt}
@@ -24,7 +24,7 @@ use Rattle.raft.specs.AnyMessage.{taking, taken}
 use Rattle.raft.specs.VoteRequest.{on_vote_request}
 use Rattle.raft.specs.VoteAnswer.{counts, counted, adding, on_vote_answer}
 use Rattle.raft.specs.Append.{lacks, stop, passes, joined, cuts_committed, say_no, on_append}
-use Rattle.raft.specs.JoinLaws.{joined_same, kept-joined, kept_self, lacks-not}
+use Rattle.raft.proofs.JoinLaws.{joined_same, kept-joined, kept_self, lacks-not}
 use Rattle.raft.specs.AppendAnswer.{answered, hear, on_append_answer}
 use Rattle.raft.specs.Receive.{sender, receiver, term_of, stale, current, deliver, is_for, arrive, arrive_read, receive}
 use Rattle.raft.specs.Event.{Event, times_out, takes_order, is_prompted, receives, step}

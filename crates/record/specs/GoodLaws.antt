@@ -9,7 +9,7 @@ use Rattle.frames.specs.Rules.{is_box, follows, in_order}
 use Rattle.record.specs.declared.Record.{Record}
 use Rattle.raft.specs.Majority.{holds}
 use Rattle.raft.specs.Record.{State, leader, last_index, of_box, is_other, is_progress, has_progress, sends_to, is_membership, is_vote, is_role, are_votes, good}
-use Rattle.raft.specs.RecordLaws.{box_range, Good, good-facts, Member, member-facts}
+use Rattle.raft.proofs.RecordLaws.{box_range, Good, good-facts, Member, member-facts}
 use Rattle.raft.specs.Event.{Event, step}
 use Rattle.raft.specs.LentLaws.{length-entries_of}
 use Rattle.record.specs.Calls.{entries_of, state_of, untouched, run, call, Ready}

@@ -8,13 +8,13 @@ use Rattle.std.proofs.Math.Bool.{true, false}
 use Rattle.digits.specs.Room.{over}
 use Rattle.frames.specs.Message.{Message}
 use Rattle.raft.specs.Record.{State, fresh, is_membership, good, handed_out}
-use Rattle.raft.specs.RecordLaws.{good-facts}
+use Rattle.raft.proofs.RecordLaws.{good-facts}
 use Rattle.raft.specs.Sends.{texts}
 use Rattle.raft.specs.Journal.{head, journaled}
 use Rattle.raft.specs.Outcome.{Outcome, done, refuse}
 use Rattle.raft.specs.Event.{Event, step}
-use Rattle.raft.specs.EventLaws.{step-numbered}
-use Rattle.raft.specs.RefusalLaws.{Numbered, at_least_one}
+use Rattle.raft.proofs.EventLaws.{step-numbered}
+use Rattle.raft.proofs.RefusalLaws.{Numbered, at_least_one}
 use Rattle.raft.specs.LentLaws.{length-entries_of, take-entries}
 use Rattle.record.specs.declared.Record.{Record}
 use Rattle.record.specs.declared.Handed.{Handed}

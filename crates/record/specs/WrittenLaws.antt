@@ -22,7 +22,7 @@ use Rattle.record.specs.declared.Send.{Send}
 use Rattle.record.specs.declared.Decision.{Decision}
 use Rattle.record.specs.declared.Sizes.{Sizes}
 use Rattle.raft.specs.Record.{State, leader, is_other, is_progress, sends_to, good}
-use Rattle.raft.specs.RecordLaws.{Good, sent-facts}
+use Rattle.raft.proofs.RecordLaws.{Good, sent-facts}
 use Rattle.raft.specs.Sends.{texts}
 use Rattle.raft.specs.Journal.{head, Line, line_text, kept, same_stored, line_of, journaled}
 use Rattle.raft.specs.Outcome.{Outcome, done, refuse}

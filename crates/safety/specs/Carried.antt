@@ -4,12 +4,12 @@ use Rattle.frames.specs.declared.Entry.{Entry}
 use Rattle.frames.specs.Message.{Message}
 use Rattle.raft.specs.Majority.{holds}
 use Rattle.raft.specs.Record.{State, candidate, leader}
-use Rattle.raft.specs.RecordLaws.{Member}
+use Rattle.raft.proofs.RecordLaws.{Member}
 use Rattle.raft.specs.Commit.{matches}
 use Rattle.history.specs.InForce.{fixed}
 use Rattle.history.specs.History.{History, Facts}
-use Rattle.history.specs.Handed.{Hands}
-use Rattle.history.specs.Told.{Vote, Tells}
+use Rattle.history.proofs.Handed.{Hands}
+use Rattle.history.proofs.Told.{Vote, Tells}
 use Rattle.safety.specs.Park.{Park}
 use Rattle.safety.specs.Sent.{Sent}
 

@@ -6,14 +6,14 @@ use Rattle.std.proofs.Common.{inl, inr, eqb-true}
 use Rattle.digits.specs.Tests.{and_left, and_right}
 use Rattle.frames.specs.Message.{Message, text}
 use Rattle.frames.specs.Reading.{Reading, frame, refused, reading}
-use Rattle.frames.specs.OneSpelling.{frame_exactly}
+use Rattle.frames.proofs.OneSpelling.{frame_exactly}
 use Rattle.raft.specs.Record.{State, is_other}
-use Rattle.raft.specs.CommitLaws.{by_test}
+use Rattle.raft.proofs.CommitLaws.{by_test}
 use Rattle.raft.specs.Outcome.{Outcome, refuse}
-use Rattle.raft.specs.SendLaws.{All}
+use Rattle.raft.proofs.SendLaws.{All}
 use Rattle.raft.specs.Receive.{deliver, sender, receiver, arrive, arrive_read, receive, is_for}
 use Rattle.raft.specs.Event.{Event, times_out, takes_order, is_prompted, receives}
-use Rattle.raft.specs.ReceiveLaws.{Arrives}
+use Rattle.raft.proofs.ReceiveLaws.{Arrives}
 use Rattle.safety.specs.Park.{Comes, frames}
 
 -- A message is among the frames that were sent.

@@ -3,10 +3,10 @@ use Rattle.std.specs.Prelude.{◌≡◌, refl, List, [], ◌∷◌, ◌++◌}
 use Rattle.std.proofs.Common.{sym, ap, ◌∙◌, append-nil}
 use Rattle.frames.specs.Message.{Message, text, table}
 use Rattle.raft.specs.Sends.{texts}
-use Rattle.raft.specs.SendLaws.{All}
+use Rattle.raft.proofs.SendLaws.{All}
 use Rattle.journal.specs.Lines.{lines}
-use Rattle.journal.specs.LinesLaws.{Whole, strung, lines-strung}
-use Rattle.journal.specs.LineSpelling.{whole-lined}
+use Rattle.journal.proofs.LinesLaws.{Whole, strung, lines-strung}
+use Rattle.journal.proofs.LineSpelling.{whole-lined}
 use Rattle.safety.specs.Park.{frames}
 
 -- a frame is a line,

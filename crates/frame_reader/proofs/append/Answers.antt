@@ -1,7 +1,7 @@
 -- Each field is read from its place, and there are as many entries as are counted.
 use Rattle.frames.specs.Reading.{append_in}
 use Rattle.frames.specs.Fields.{fields_of}
-use Rattle.frames.specs.ReadingLaws.{length-entries}
+use Rattle.frames.proofs.ReadingLaws.{length-entries}
 use Rattle.frame_reader.proofs.append.Goals as goal
 
 pub returns : goal.returns

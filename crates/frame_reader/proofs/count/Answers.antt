@@ -4,7 +4,7 @@ use Prim.Native.Nat.{◌*◌, ◌≤◌}
 use mathlib.Core.Path.{sym, ◌∙◌}
 use Rattle.digits.specs.Digits.{run}
 use Rattle.frames.specs.Reading.{size}
-use Rattle.frames.specs.ReadingLaws.{count-append, count_none}
+use Rattle.frames.proofs.ReadingLaws.{count-append, count_none}
 use Rattle.frame_reader.proofs.count.Goals as goal
 
 pub get_u8-requires : goal.get_u8-requires

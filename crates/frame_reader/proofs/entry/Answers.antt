@@ -2,7 +2,7 @@
 use native.Mathlib.Omega.{arith}
 use mathlib.Core.Path.{sym}
 use Rattle.frames.specs.Reading.{entry_at}
-use Rattle.frames.specs.ReadingLaws.{entry-there, entry_past}
+use Rattle.frames.proofs.ReadingLaws.{entry-there, entry_past}
 use Rattle.frame_reader.proofs.entry.Goals as goal
 
 pub returns-then-at-count : goal.returns-then-at-count

@@ -4,7 +4,7 @@ use mathlib.Core.Path.{ap, sym, ◌∙◌}
 use Rattle.frames.specs.Reading.{kind, message_in}
 use Rattle.frames.specs.Fields.{fields_of}
 use Rattle.frames.specs.Laws.{kind_1, kind_2, kind_3, kind_4}
-use Rattle.frames.specs.ReadingLaws.{readable-long, room_for, room_for_entries, last-kind}
+use Rattle.frames.proofs.ReadingLaws.{readable-long, room_for, room_for_entries, last-kind}
 use Rattle.frame_reader.proofs.fields.Goals as goal
 
 pub get_u8-kind-requires : goal.get_u8-kind-requires

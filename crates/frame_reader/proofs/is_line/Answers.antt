@@ -3,7 +3,7 @@ use native.Mathlib.Omega.{arith}
 use Prim.Native.Nat.{◌-◌}
 use mathlib.Core.Path.{sym}
 use lib.ListN.{length, length-take}
-use Rattle.frames.specs.ReadingLaws.{no_line, line-by}
+use Rattle.frames.proofs.ReadingLaws.{no_line, line-by}
 use Rattle.frame_reader.proofs.is_line.Goals as goal
 
 pub returns-then-s-eq0 : goal.returns-then-s-eq0

@@ -5,7 +5,7 @@ use mathlib.Core.Path.{ap}
 use lib.ListN.{length}
 use borrow.Author.Tests.{ne_eqb}
 use Rattle.frames.specs.Reading.{kind, count, size, text_size}
-use Rattle.frames.specs.ReadingLaws.{size-lt, size-grows}
+use Rattle.frames.proofs.ReadingLaws.{size-lt, size-grows}
 use Rattle.frame_reader.proofs.is_long.Goals as goal
 
 pub text_size-requires : goal.text_size-requires

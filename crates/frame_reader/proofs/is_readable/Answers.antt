@@ -4,7 +4,7 @@ use mathlib.Core.Path.{◌≡◌, sym, ◌∙◌}
 use mathlib.Core.Bool.{true}
 use borrow.Author.Tests.{not-false}
 use Rattle.frames.specs.Reading.{is_line, kind, is_headed, readable, shaped}
-use Rattle.frames.specs.ReadingLaws.{unreadable, line-run, headed_kind}
+use Rattle.frames.proofs.ReadingLaws.{unreadable, line-run, headed_kind}
 use Rattle.frame_reader.proofs.is_readable.Goals as goal
 
 pub returns-then-s-lt19 : goal.returns-then-s-lt19

@@ -4,7 +4,7 @@ use mathlib.Core.Bool.{true}
 use borrow.Author.Tests.{not-false}
 use Rattle.frames.specs.Reading.{readable}
 use Rattle.frames.specs.Fields.{answer}
-use Rattle.frames.specs.ReadingLaws.{read-few, read-frame, read_disobeys, read_unreadable}
+use Rattle.frames.proofs.ReadingLaws.{read-few, read-frame, read_disobeys, read_unreadable}
 use Rattle.frame_reader.proofs.read.Goals as goal
 
 pub returns-then-not-is_readable : goal.returns-then-not-is_readable

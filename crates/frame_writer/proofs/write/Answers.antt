@@ -4,7 +4,7 @@ use mathlib.Core.Path.{ap, ◌≡◌, sym, ◌∙◌}
 use mathlib.Core.Bool.{true}
 use borrow.Author.Tests.{not-false}
 use Rattle.frames.specs.Reading.{size, text_size}
-use Rattle.frames.specs.ReadingLaws.{size-lt}
+use Rattle.frames.proofs.ReadingLaws.{size-lt}
 use Rattle.frames.specs.Fields.{one_frame}
 use Rattle.frames.specs.WritingLaws.{whole, text-bytes, written-not, written-short, written-whole}
 use Rattle.frame_writer.proofs.write.Goals as goal

@@ -4,7 +4,7 @@ use mathlib.Core.Path.{sym, ap, ◌∙◌}
 use borrow.Author.Tests.{eq-eqb, ne_eqb}
 use Rattle.raft.specs.Record.{State}
 use Rattle.raft.specs.Order.{blank}
-use Rattle.raft.specs.StepLaws.{good-standing}
+use Rattle.raft.proofs.StepLaws.{good-standing}
 use Rattle.raft.specs.Timeout.{standing, timeout}
 use Rattle.record.specs.declared.Send.{Send}
 use Rattle.record.specs.Deciding.{messages_of, Aimed}

@@ -2,7 +2,7 @@
 use native.Mathlib.Omega.{arith}
 use mathlib.Core.Path.{refl}
 use Rattle.frames.specs.Reading.{size}
-use Rattle.frames.specs.ReadingLaws.{longest}
+use Rattle.frames.proofs.ReadingLaws.{longest}
 use Rattle.frames.proofs.lengths.size.Goals as goal
 
 pub overflow_cast-result-2 : goal.overflow_cast-result-2

@@ -1,7 +1,7 @@
 -- The definition's own tests.
 use mathlib.Core.Path.{sym, ◌∙◌}
 use borrow.Author.Tests.{lt-ltb, le-ltb}
-use Rattle.raft.specs.CommitLaws.{larger_matched}
+use Rattle.raft.specs.LargestMatch.{larger_matched}
 use Rattle.leader.proofs.commit.larger_matched.Goals as goal
 
 pub returns-then-is_matched : goal.returns-then-is_matched

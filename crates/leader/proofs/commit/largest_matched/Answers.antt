@@ -1,5 +1,5 @@
 -- The chain is the definition's own.
-use Rattle.raft.specs.CommitLaws.{largest_matched}
+use Rattle.raft.specs.LargestMatch.{largest_matched}
 use Rattle.leader.proofs.commit.largest_matched.Goals as goal
 
 pub returns : goal.returns

@@ -3,7 +3,7 @@ use native.Mathlib.Omega.{arith}
 use mathlib.Core.Path.{sym, ◌∙◌}
 use Rattle.raft.specs.LentLaws.{length-entries_of}
 use Rattle.record.specs.Calls.{entries_of}
-use Rattle.raft.specs.CommitLaws.{term-front, term-new}
+use Rattle.raft.proofs.CommitLaws.{term-front, term-new}
 use Rattle.leader.proofs.commit.term_after.Goals as goal
 
 pub returns-then-index-n : goal.returns-then-index-n

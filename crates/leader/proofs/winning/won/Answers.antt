@@ -4,7 +4,7 @@ use native.Mathlib.Omega.{arith}
 use mathlib.Core.Path.{ap, ◌∙◌}
 use Rattle.raft.specs.Record.{State}
 use Rattle.raft.specs.Commit.{settle}
-use Rattle.raft.specs.CommitLaws.{ranged}
+use Rattle.raft.proofs.CommitLaws.{ranged}
 use Rattle.raft.specs.Order.{blank}
 use Rattle.record.specs.GoodLaws.{ready-last}
 use Rattle.leader.specs.LeadLaws.{first-ready, first-leads, first-term, full_decides, blank-decides}

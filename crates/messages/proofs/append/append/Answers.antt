@@ -1,7 +1,7 @@
 -- The definition's three cases.
 use native.Mathlib.Omega.{arith}
 use mathlib.Core.Path.{sym, ◌∙◌}
-use Rattle.raft.specs.JoinLaws.{lacks-not}
+use Rattle.raft.proofs.JoinLaws.{lacks-not}
 use Rattle.raft.specs.LentLaws.{length-entries_of}
 use Rattle.record.specs.declared.Send.{Send}
 use Rattle.record.specs.Calls.{state_of}

@@ -1,7 +1,7 @@
 -- The tests are the definition's own.
 use native.Mathlib.Omega.{arith}
 use mathlib.Core.Path.{sym, ◌∙◌}
-use Rattle.frames.specs.ReadingLaws.{line-run}
+use Rattle.frames.proofs.ReadingLaws.{line-run}
 use Rattle.frames.specs.Reading.{version, kind}
 use Rattle.journal.specs.Lines.{count_in}
 use Rattle.opening.specs.CodeLaws.{shaped-short, shaped-no_line, shaped-by}

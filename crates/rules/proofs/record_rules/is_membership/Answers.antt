@@ -1,7 +1,7 @@
 -- The definition's own tests; a mask is looked into only for the number of a box.
 use mathlib.Core.Path.{sym, ◌∙◌}
 use Rattle.raft.specs.Record.{is_membership}
-use Rattle.raft.specs.RecordLaws.{box_range}
+use Rattle.raft.proofs.RecordLaws.{box_range}
 use Rattle.rules.proofs.record_rules.is_membership.Goals as goal
 
 pub holds-requires : goal.holds-requires

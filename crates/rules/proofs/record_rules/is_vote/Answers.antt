@@ -2,7 +2,7 @@
 use mathlib.Core.Path.{sym, ◌∙◌}
 use borrow.Author.Tests.{eq-eqb, ne_eqb}
 use Rattle.raft.specs.Record.{is_vote}
-use Rattle.raft.specs.RecordLaws.{box_range}
+use Rattle.raft.proofs.RecordLaws.{box_range}
 use Rattle.rules.proofs.record_rules.is_vote.Goals as goal
 
 pub returns-then-vote-eq0 : goal.returns-then-vote-eq0

@@ -1,0 +1,22 @@
+-- Laws about the definitions of specs/, which the edits in must-fail/ weaken; and what of the proofs several of them share.
+pub mod Views
+pub mod Descent
+pub mod Lineage
+pub mod LeaderComplete
+pub mod Book
+pub mod Later
+pub mod GrowVotes
+pub mod GrowLeaders
+pub mod Join
+pub mod GrowBoxes
+pub mod Steps
+pub mod Handed
+pub mod Told
+pub mod Election
+pub mod Settled
+pub mod Alarms
+pub mod Example
+pub mod ExampleLost
+pub mod ExampleChange
+pub mod ExampleLate
+pub mod ConfLaws

@@ -1,0 +1,14 @@
+-- Laws about the definitions of specs/, which the edits in must-fail/ weaken; and what of the proofs several of them share.
+pub mod JoinLaws
+pub mod RecordLaws
+pub mod MajorityLaws
+pub mod CommitLaws
+pub mod StepLaws
+pub mod WinningLaws
+pub mod SendLaws
+pub mod FitLaws
+pub mod ReceiveLaws
+pub mod ReceiveSends
+pub mod RefusalLaws
+pub mod EventLaws
+pub mod CommitRises
