@@ -1,4 +1,4 @@
-/* Jargulmet for C and C++: the functions of crates/abi, as libabi.a has them (`rt staticlib abi`; x86-64 Linux).
+/* Jargulmet for C and C++: the functions of crates/abi_c, as libabi.a has them (tests/kit_build; x86-64 Linux).
  *
  * What is lent. The library allocates nothing, keeps no pointer and has no memory of its own: all that a call
  * works on is lent to it for that call, and calls on different boxes may run side by side. No pointer is null,
@@ -11,7 +11,7 @@
  * has all of them, examples/host.c is a host on a page.
  *
  * What is promised. Each call's answer and all that it leaves in what it was lent, to the byte, is proved:
- * crates/abi/src has the contracts, crates/abi/specs what they mean. */
+ * crates/abi_c/src has the contracts, crates/abi/specs what they mean. */
 #ifndef JARGULMET_H
 #define JARGULMET_H
 

@@ -1,96 +1,107 @@
 // Reads cases from standard input, each ended by `;`, hands each to the frame reader, and prints what it got: `n1`, or the
 // fields in decimal (entries as their 24 digits), and on the next line the frame that the writer makes of them.
 #![tactic(auto)]
+
 ghost use Rattle.std.specs.Prelude.{◌≤◌, length};
 
 use frames::{Entry, Fields};
-use libc::{STDIN_FILENO, STDOUT_FILENO};
+use std::io::{Read, Write};
 
-fn space() {
-    io::write_all(STDOUT_FILENO, b" ");
+// What cannot be written is passed over: whoever compares the output sees it.
+fn put<W: Write>(out: &mut W, text: &[u8]) {
+    let _ = out.write_all(text);
 }
 
-fn number(n: u64) {
-    space();
-    io::print_decimal(STDOUT_FILENO, n);
+fn decimal<W: Write>(out: &mut W, n: u64) {
+    let _ = write!(out, "{n}");
+}
+
+fn space<W: Write>(out: &mut W) {
+    put(out, b" ");
+}
+
+fn number<W: Write>(out: &mut W, n: u64) {
+    space(out);
+    decimal(out, n);
 }
 
 // The entry's 24 digits, where it is one of those counted.
-fn entry(e: Entry, at: u8, count: u8) {
+fn entry<W: Write>(out: &mut W, e: Entry, at: u8, count: u8) {
     if at < count {
-        space();
-        io::print_hex(STDOUT_FILENO, e.term as u64, 8);
-        io::print_hex(STDOUT_FILENO, e.order, 16);
+        let term = e.term;
+        let order = e.order;
+        space(out);
+        let _ = write!(out, "{term:08x}{order:016x}");
     }
 }
 
-fn start(f: Fields) {
-    io::print_decimal(STDOUT_FILENO, f.kind as u64);
-    number(f.from as u64);
-    number(f.to as u64);
-    number(f.term as u64);
+fn start<W: Write>(out: &mut W, f: Fields) {
+    decimal(out, f.kind as u64);
+    number(out, f.from as u64);
+    number(out, f.to as u64);
+    number(out, f.term as u64);
 }
 
-fn append(f: Fields) {
+fn append<W: Write>(out: &mut W, f: Fields) {
     let count = f.count;
-    number(f.index as u64);
-    number(f.prior as u64);
-    number(f.commit as u64);
-    number(count as u64);
-    entry(f.entries[0], 0, count);
-    entry(f.entries[1], 1, count);
-    entry(f.entries[2], 2, count);
-    entry(f.entries[3], 3, count);
+    number(out, f.index as u64);
+    number(out, f.prior as u64);
+    number(out, f.commit as u64);
+    number(out, count as u64);
+    entry(out, f.entries[0], 0, count);
+    entry(out, f.entries[1], 1, count);
+    entry(out, f.entries[2], 2, count);
+    entry(out, f.entries[3], 3, count);
 }
 
-fn fields(f: Fields) {
+fn fields<W: Write>(out: &mut W, f: Fields) {
     let kind = f.kind;
-    start(f);
+    start(out, f);
     if kind == 1 {
-        number(f.index as u64);
-        number(f.prior as u64);
+        number(out, f.index as u64);
+        number(out, f.prior as u64);
         return;
     }
     if kind == 2 {
-        number(f.reply as u64);
+        number(out, f.reply as u64);
         return;
     }
     if kind == 3 {
-        append(f);
+        append(out, f);
         return;
     }
-    number(f.reply as u64);
-    number(f.index as u64);
+    number(out, f.reply as u64);
+    number(out, f.index as u64);
 }
 
 // What the writer makes of the fields, and the number of its refusal where it makes none.
-fn frame(f: Fields) {
+fn frame<W: Write>(out: &mut W, f: Fields) {
     let mut room = [0u8; 256];
     let written = frame_writer::write(&mut room, f);
     let bytes = written.bytes;
     if written.refusal == 0 {
         if bytes <= 256 {
-            io::write_all(STDOUT_FILENO, &room[..bytes]);
+            put(out, &room[..bytes]);
         }
         return;
     }
-    io::write_all(STDOUT_FILENO, b"n");
-    io::print_decimal(STDOUT_FILENO, written.refusal as u64);
-    io::write_all(STDOUT_FILENO, b"\n");
+    put(out, b"n");
+    decimal(out, written.refusal as u64);
+    put(out, b"\n");
 }
 
-fn show(case: &[u8]) {
+fn show<W: Write>(out: &mut W, case: &[u8]) {
     let parsed = frame_reader::read(case);
     if parsed.refusal == 0 {
         let f = parsed.fields;
-        fields(f);
-        io::write_all(STDOUT_FILENO, b"\n");
-        frame(f);
+        fields(out, f);
+        put(out, b"\n");
+        frame(out, f);
         return;
     }
-    io::write_all(STDOUT_FILENO, b"n");
-    io::print_decimal(STDOUT_FILENO, parsed.refusal as u64);
-    io::write_all(STDOUT_FILENO, b"\n");
+    put(out, b"n");
+    decimal(out, parsed.refusal as u64);
+    put(out, b"\n");
 }
 
 // Where the case that starts at a place ends, or the end where none does.
@@ -108,19 +119,34 @@ fn case_end(s: &[u8], from: usize) -> usize
     i
 }
 
-fn show_all(s: &[u8]) {
+fn show_all<W: Write>(out: &mut W, s: &[u8]) {
     let mut from = 0;
     while from < s.len() {
         let end = case_end(s, from);
         if end < s.len() {
-            show(&s[from..end]);
+            show(out, &s[from..end]);
         }
         from = end + 1;
     }
 }
 
-fn main() {
-    let mut space = io::large_buffer();
-    let n = io::read_full(STDIN_FILENO, &mut space);
-    show_all(&space[..n]);
+// Reads until the room is full, the input has ended or a read fails, and answers how much stands at its start.
+fn read_full<R: Read>(input: &mut R, room: &mut [u8]) -> usize
+    ensures { result ≤ length room.old }
+{
+    let mut filled = 0;
+    while filled < room.len() {
+        let got = input.read(&mut room[filled..]).unwrap_or(0);
+        if got == 0 {
+            break;
+        }
+        filled += got;
+    }
+    filled
+}
+
+fn main(rt: HostRuntime) {
+    let mut space = [0u8; 65536];
+    let n = read_full(&mut rt.stdin(), &mut space);
+    show_all(&mut rt.stdout(), &space[..n]);
 }

@@ -1,9 +1,10 @@
 // 01's small program: a box on lines of text. It reads, has each line answered by the library, and prints.
 #![tactic(auto)]
+
 ghost use Rattle.std.specs.Prelude.{◌≤◌, length};
 
-use libc::STDOUT_FILENO;
 use record::Record;
+use std::io::{Read, Write};
 
 // What came of the lines of a block: the next box, the bytes consumed, and whether all could be printed.
 #[derive(Drop)]
@@ -14,7 +15,8 @@ struct Block {
 }
 
 // Answers the whole lines of a block, and prints the answers.
-fn answer_all(
+fn answer_all<W: Write>(
+    stdout: &mut W,
     n: Record,
     bytes: &[u8],
     terms: &mut [u32; Record::LOG],
@@ -36,7 +38,7 @@ fn answer_all(
         }
         state = done.state;
         at += done.consumed;
-        if !io::write_all(STDOUT_FILENO, &output[..done.bytes]) {
+        if stdout.write_all(&output[..done.bytes]).is_err() {
             return Block {
                 state,
                 consumed: at,
@@ -47,7 +49,9 @@ fn answer_all(
 }
 
 // The lines behind the first: those in the block already, then what is read.
-fn later_lines(
+fn later_lines<R: Read, W: Write>(
+    stdin: &mut R,
+    stdout: &mut W,
     n: Record,
     input: &mut [u8],
     from: usize,
@@ -64,14 +68,14 @@ fn later_lines(
     let mut held = filled;
     let mut turns = u64::MAX;
     while turns > 0 {
-        let block = answer_all(state, &input[at..held], terms, orders, output);
+        let block = answer_all(stdout, state, &input[at..held], terms, orders, output);
         if !block.printed {
             return;
         }
         state = block.state;
         let left = reader::keep(input, at + block.consumed, held);
         let kept = reader::shorten(&input[..], left);
-        held = reader::more(input, kept);
+        held = reader::more(stdin, input, kept);
         if held == kept {
             return;
         }
@@ -80,13 +84,13 @@ fn later_lines(
     }
 }
 
-fn run(input: &mut [u8], output: &mut [u8]) {
-    let first = reader::whole_line(input, 0);
+fn run<R: Read, W: Write>(stdin: &mut R, stdout: &mut W, input: &mut [u8], output: &mut [u8]) {
+    let first = reader::whole_line(stdin, input, 0);
     if first.end == 0 {
         return;
     }
     let begun = console::begin(&input[..first.end], output);
-    if !io::write_all(STDOUT_FILENO, &output[..begun.bytes]) {
+    if stdout.write_all(&output[..begun.bytes]).is_err() {
         return;
     }
     if begun.started {
@@ -94,6 +98,8 @@ fn run(input: &mut [u8], output: &mut [u8]) {
         let mut terms = [0u32; Record::LOG];
         let mut orders = [0u64; Record::LOG];
         later_lines(
+            stdin,
+            stdout,
             state,
             input,
             first.end,
@@ -105,8 +111,8 @@ fn run(input: &mut [u8], output: &mut [u8]) {
     }
 }
 
-fn main() {
-    let mut input = io::large_buffer();
-    let mut output = io::large_buffer();
-    run(&mut input, &mut output);
+fn main(rt: HostRuntime) {
+    let mut input = [0u8; 65536];
+    let mut output = [0u8; 65536];
+    run(&mut rt.stdin(), &mut rt.stdout(), &mut input, &mut output);
 }

@@ -1,20 +1,23 @@
-// Standard input in large blocks. The bytes of a line that is not whole yet stay at the block's start until the rest has come.
+// An input, the programs' standard input, in large blocks. The bytes of a line that is not whole yet stay at the block's start until the rest has come.
 #![tactic(auto)]
+
 ghost use Rattle.std.specs.Prelude.{◌+◌, ◌-◌, ◌≤◌, ◌≡◌, length, take, drop};
 ghost use Rattle.digits.specs.Room.{over};
 ghost use Rattle.text.specs.Lines.{first_line};
 ghost use Rattle.reader.specs.Blocks.{shortened};
 
-use libc::STDIN_FILENO;
+use std::io::Read;
 
-// Reads what there is behind what the block holds, and answers what it holds then: the same as before where the input has ended, or where the block is full.
-pub fn more(block: &mut [u8], held: usize) -> usize
+// Reads what there is behind what the block holds, and answers what it holds then: the same as before where the input has ended or a read fails, or where the block is full.
+pub fn more<R: Read>(input: &mut R, block: &mut [u8], held: usize) -> usize
     requires { held ≤ length block.old }
     ensures lower_bound { held ≤ result }
     ensures upper_bound { result ≤ length block.old }
 {
-    let got = libc::read(STDIN_FILENO, &mut block[held..]);
-    held + io::count(got, &block[held..])
+    match input.read(&mut block[held..]) {
+        Ok(got) => held + got,
+        Err(_) => held,
+    }
 }
 
 // Moves what the block holds from a place on to its start, and answers how much that is.
@@ -55,7 +58,7 @@ pub struct Line {
 }
 
 // The line at the block's start, read on until it is whole. (Which bytes a read brings no contract can say: that it reads on, and when it ends, is tested.)
-pub fn whole_line(block: &mut [u8], filled: usize) -> Line
+pub fn whole_line<R: Read>(input: &mut R, block: &mut [u8], filled: usize) -> Line
     requires { filled ≤ length block.old }
     ensures end_le_held { result.end ≤ result.held }
     ensures held_in_bounds { result.held ≤ length block.old }
@@ -69,7 +72,7 @@ pub fn whole_line(block: &mut [u8], filled: usize) -> Line
             return Line { end, held };
         }
         let kept = shorten(&block[..], held);
-        held = more(block, kept);
+        held = more(input, block, kept);
         if held == kept {
             break;
         }

@@ -1,0 +1,19 @@
+-- What is held never passes the block, nor what is consumed what is held.
+use Prim.Native.Nat.{ℕ, ◌≤◌}
+use mathlib.Core.Path.{◌≡◌}
+use mathlib.Core.List.{List}
+use lib.ListN.{length}
+use Rattle.jargulmet.proofs.later_lines.Given as goal
+
+pub record Held (input₀ output₀ input output : List ℕ) (at held : ℕ) : Type 0 where
+  pub before : at ≤ held
+  pub within : held ≤ length input
+  pub long : length input ≡ length input₀
+  pub same : length output ≡ length output₀
+
+abbrev pub invariant-loop-turns : goal.invariant-loop-turns
+invariant-loop-turns g l =
+    Held l.initial.input l.initial.output l.input l.output l.at l.held
+
+abbrev pub decreases-loop-turns : goal.decreases-loop-turns
+decreases-loop-turns g l = l.turns
