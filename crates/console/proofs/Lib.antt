@@ -1,4 +1,4 @@
--- What holds of the contracts.
+-- What is proved of a session (specs/Session); and that an answer is the only one.
 mod OneAnswer
 pub mod SessionLaws
 pub mod RunLaws

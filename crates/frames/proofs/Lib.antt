@@ -1,4 +1,4 @@
--- Laws about the definitions of specs/, which the edits in must-fail/ weaken; and what of the proofs several of them share.
+-- What is proved of frames (specs/): reading is exactly the definition, and a frame has one spelling (OneSpelling).
 pub mod ReadingLaws
 pub mod Spelling
 pub mod OneSpelling

@@ -1,6 +1,6 @@
 -- Of majorities any two share a box (`both`); and agreements under near configurations share a box (`meets`). Outside this file agreements are made,
 -- mapped and met; one is opened once, where there is no member (`Views.nobody`). Assumes nothing.
-use Rattle.std.specs.Prelude.{ℕ, ◌<◌, ◌≡◌}
+use Rattle.std.specs.Prelude.{ℕ, ◌<◌}
 use Rattle.std.proofs.Common.{subst}
 use Rattle.frames.specs.Limits.{masks}
 use Rattle.raft.proofs.MajorityLaws.{meet}

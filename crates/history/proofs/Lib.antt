@@ -1,4 +1,8 @@
--- Laws about the definitions of specs/, which the edits in must-fail/ weaken; and what of the proofs several of them share.
+-- What follows from History's Facts alone: ConfLaws and Views, which configurations agree; Lineage, LeaderComplete and Book (one leader a term, one
+-- book, every leader holds it); that each step of a growing history keeps the facts (GrowLeaders to Steps); what is handed out, what a sent frame tells, an
+-- election, a leader's commit and the alarms, as `safety` needs them, which is at `fixed`; and four examples: that the facts can hold, what they
+-- do not say, a change of membership, and why a vote that is given late does not count.
+pub mod ConfLaws
 pub mod Views
 pub mod Descent
 pub mod Lineage
@@ -19,4 +23,3 @@ pub mod Example
 pub mod ExampleLost
 pub mod ExampleChange
 pub mod ExampleLate
-pub mod ConfLaws

@@ -1,4 +1,4 @@
--- Laws about the definitions of specs/, which the edits in must-fail/ weaken; and what of the proofs several of them share.
+-- What is proved of opening a journal (specs/Opening): what a box wrote is what it finds again (ReplayLaws), whatever byte the power failed at (TornLaws).
 pub mod LinesLaws
 pub mod LineSpelling
 pub mod OpeningLaws

@@ -2,7 +2,7 @@
 use Rattle.std.specs.Prelude.{ℕ, zero, suc, ◌+◌, ◌*◌, ◌≤◌, ◌<◌, ◌≡◌, refl, Bool, true, false, cond, List, [], ◌∷◌, eqb, length}
 use Rattle.std.proofs.Common.{arith, length-append, length-drop}
 use Rattle.std.proofs.lemmas.Bool.{eqb-false}
-use Rattle.frames.specs.Limits.{boxes, entry_limit, longest_message}
+use Rattle.frames.specs.Limits.{boxes, longest_message}
 use Rattle.frames.specs.Message.{Message, vote_request, vote_answer, append, append_answer, text}
 use Rattle.frames.specs.Reading.{size}
 use Rattle.frames.specs.Rules.{obeys}

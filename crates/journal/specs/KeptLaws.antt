@@ -1,6 +1,6 @@
 -- What both logs begin with: `kept` and the rest make the later log again. Assumes nothing.
 use Rattle.std.specs.Prelude.{ℕ, zero, suc, ◌+◌, ◌≤◌, ◌≡◌, refl, Bool, true, false, cond, List, [], ◌∷◌, ◌++◌, eqb, length, take, drop}
-use Rattle.std.proofs.Common.{arith, sym, ◌∙◌, append-nil, eqb-true, eq-eqb}
+use Rattle.std.proofs.Common.{arith, sym, ◌∙◌, append-nil, eqb-true}
 use Rattle.std.proofs.Math.Seq.{take-length, drop-length}
 use Rattle.digits.specs.Tests.{and_left, and_right}
 use Rattle.frames.specs.declared.Entry.{Entry}
@@ -8,7 +8,7 @@ use Rattle.frames.specs.Limits.{entry_limit}
 use Rattle.raft.specs.Record.{term_at}
 use Rattle.raft.specs.Journal.{same_entry, kept}
 use Rattle.raft.specs.Append.{stop, passes, joined}
-use Rattle.raft.proofs.JoinLaws.{kept_self, kept_more, joined_same, joined-long, kept-joined}
+use Rattle.raft.proofs.JoinLaws.{kept_self, joined_same, joined-long, kept-joined}
 
 -- entries with the same term and order are the same
 same_entries : (x y : Entry) → same_entry x y ≡ true → x ≡ y

@@ -1,6 +1,6 @@
 -- What an append answer comes to, case by case. Assumes nothing.
 use Rattle.std.specs.Prelude.{ℕ, ◌+◌, ◌≤◌, ◌<◌, max, ◌≡◌, Bool, ◌&&◌, List, [], ◌∷◌, ltb}
-use Rattle.std.proofs.Common.{arith, ◌∙◌, eqb-true, eq-eqb, ne_eqb, ltb-false}
+use Rattle.std.proofs.Common.{arith, eqb-true, eq-eqb, ne_eqb, ltb-false}
 use Rattle.std.proofs.Math.Path.{refl, ap}
 use Rattle.std.proofs.Math.Bool.{true, false, cond}
 use Rattle.std.proofs.Math.Dec.{eqb}

@@ -1,5 +1,5 @@
 -- What an append comes to, case by case, and the decision that adds entries. Assumes nothing.
-use Rattle.std.specs.Prelude.{ℕ, zero, suc, ◌+◌, ◌-◌, ◌≤◌, ◌<◌, min, ◌≡◌, refl, Bool, true, false, cond, ◌&&◌, List, [], ◌∷◌, ◌++◌, length, take, drop}
+use Rattle.std.specs.Prelude.{ℕ, zero, suc, ◌+◌, ◌-◌, ◌≤◌, ◌<◌, min, ◌≡◌, true, false, List, [], ◌∷◌, ◌++◌, length, drop}
 use Rattle.std.proofs.Common.{add-zero, zero-add, add-suc, suc-add, arith, ◌∙◌}
 use Rattle.std.proofs.Math.Nat.{sub-zero, zero-sub, suc-sub-suc}
 use Rattle.std.proofs.Math.Path.{sym, ap}
@@ -7,15 +7,13 @@ use borrow.Author.Tests.{eq-eqb, ne_eqb, lt-ltb, le-ltb}
 use Rattle.frames.specs.declared.Entry.{Entry}
 use Rattle.frames.specs.Fields.{listed}
 use Rattle.frames.specs.Laws.{length-listed}
-use Rattle.frames.specs.Limits.{log_limit}
 use Rattle.frames.specs.Message.{append_answer}
 use Rattle.record.specs.declared.Record.{Record}
 use Rattle.record.specs.declared.Send.{Send}
-use Rattle.record.specs.declared.Decision.{Decision}
 use Rattle.raft.specs.Record.{State, leader, with_log, with_commit, as_follower}
 use Rattle.raft.specs.Journal.{kept}
 use Rattle.raft.specs.LentLaws.{length-entries_of, take-entries}
-use Rattle.raft.specs.Outcome.{Outcome, done, refuse}
+use Rattle.raft.specs.Outcome.{done, refuse}
 use Rattle.raft.specs.Append.{lacks, agreed, stop, passes, joined, cuts_committed, following, commit_after, joining, accept, on_append}
 use Rattle.raft.proofs.JoinLaws.{stop-most, stop-offered, joined_same, joined-cut, kept-joined}
 use Rattle.record.specs.Calls.{entries_of, with_entries, state_of}

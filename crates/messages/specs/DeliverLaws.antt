@@ -16,14 +16,14 @@ use Rattle.frames.specs.Reading.{Reading, frame, refused, reading}
 use Rattle.frames.specs.Fields.{listed, message_of, fields_of, one_frame, answer}
 use Rattle.frames.specs.Clauses.{four}
 use Rattle.frames.specs.Laws.{kind_1, kind_2, kind_3, kind_4, length-listed}
-use Rattle.frames.specs.WritingLaws.{Whole, whole}
+use Rattle.frames.specs.WritingLaws.{whole}
 use Rattle.frames.proofs.ReadingLaws.{message_told, obeys-few}
 use Rattle.frames.proofs.OneSpelling.{frame_exactly, one_frame-of}
 use Rattle.record.specs.declared.Record.{Record}
 use Rattle.record.specs.declared.Decision.{Decision}
 use Rattle.raft.specs.Record.{State, is_other}
 use Rattle.raft.proofs.RecordLaws.{box_range}
-use Rattle.raft.specs.Outcome.{Outcome, done, refuse}
+use Rattle.raft.specs.Outcome.{done, refuse}
 use Rattle.raft.specs.AnyMessage.{taken}
 use Rattle.raft.specs.VoteRequest.{on_vote_request}
 use Rattle.raft.specs.VoteAnswer.{on_vote_answer}
@@ -31,8 +31,8 @@ use Rattle.raft.specs.Append.{on_append}
 use Rattle.raft.specs.AppendAnswer.{on_append_answer}
 use Rattle.raft.specs.Receive.{sender, receiver, term_of, stale, current, deliver, is_for, arrive, arrive_read, receive}
 use Rattle.raft.proofs.ReceiveLaws.{Offers, offer-facts, taken-keeps, taken-term, good-taken}
-use Rattle.record.specs.Calls.{state_of, Ready}
-use Rattle.record.specs.Deciding.{OtherBox, Becomes, Decides}
+use Rattle.record.specs.Calls.{state_of}
+use Rattle.record.specs.Deciding.{Becomes, Decides}
 use Rattle.record.specs.DecidingLaws.{becomes_lent, becomes_ready, decides_at}
 use Rattle.record.specs.GoodLaws.{ready-good, ready-last}
 use Rattle.messages.specs.Required.{Lent, Offered, From, Read, Delivered, InTerm}

@@ -14,7 +14,6 @@ use Rattle.record.specs.Calls.{record_of}
 use Rattle.journal.specs.Lines.{lines, mask_in}
 use Rattle.journal.specs.Opening.{is_head}
 use Rattle.opening.specs.declared.Replayed as declared
-use Rattle.opening.specs.declared.Block.{Block}
 use Rattle.opening.specs.Calls.{Replays, heading, Blocks, stopped, replay_each, replaying_lines, ReplaysLines}
 use Rattle.opening.specs.ReplayCode.{line-goes, broken-leaves, lines_end, lines_next}
 use Rattle.opening.specs.OpenCode.{head-mask}

@@ -1,4 +1,4 @@
--- Laws about the definitions of specs/, which the edits in must-fail/ weaken; and what of the proofs several of them share.
+-- What is proved of the box's rules (specs/).
 pub mod JoinLaws
 pub mod RecordLaws
 pub mod MajorityLaws

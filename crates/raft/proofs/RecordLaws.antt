@@ -1,5 +1,5 @@
 -- The record's rules as facts: what each rule of a good record says, and that the facts make a good record. Assumes nothing.
-use Rattle.std.specs.Prelude.{ℕ, zero, suc, ◌+◌, ◌≤◌, ◌<◌, ◌≡◌, refl, Bool, true, ◌&&◌, eqb, ltb, leb}
+use Rattle.std.specs.Prelude.{ℕ, ◌+◌, ◌≤◌, ◌<◌, ◌≡◌, refl, Bool, true, ◌&&◌, eqb, ltb, leb}
 use Rattle.std.proofs.Common.{arith, eqb-true, ltb-true, leb-true, le-leb, ne_eqb}
 use Rattle.digits.specs.Tests.{and_left, and_right}
 use Rattle.frames.specs.Limits.{boxes, IsBox, masks, log_limit}

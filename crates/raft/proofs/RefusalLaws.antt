@@ -1,8 +1,7 @@
 -- 01's table of refusals has no number 0: whoever refuses says so. Assumes nothing.
-use Rattle.std.specs.Prelude.{ℕ, ◌≤◌, ◌≡◌, Bool, true, false, cond, ◌&&◌, List, eqb, ltb, leb}
+use Rattle.std.specs.Prelude.{ℕ, ◌≤◌, ◌≡◌, Bool, true, false, cond, ◌&&◌, List, eqb, ltb}
 use Rattle.std.proofs.Common.{arith, eq-eqb, ne_eqb}
 use Rattle.frames.specs.declared.Entry.{Entry}
-use Rattle.frames.specs.Limits.{log_limit}
 use Rattle.frames.specs.Message.{Message, vote_request, vote_answer, append, append_answer}
 use Rattle.frames.specs.Reading.{Reading, frame, refused, reading}
 use Rattle.raft.specs.Majority.{bit, majority}

@@ -1,9 +1,9 @@
 -- A good record stays good over every step. Assumes nothing.
-use Rattle.std.specs.Prelude.{ℕ, zero, suc, ◌+◌, ◌≤◌, ◌<◌, ◌≡◌, refl, Bool, true, false, not, cond, ◌&&◌, ◌||◌, List, [], ◌∷◌, ◌++◌, eqb, ltb, leb}
+use Rattle.std.specs.Prelude.{ℕ, zero, suc, ◌+◌, ◌≤◌, ◌<◌, ◌≡◌, refl, Bool, true, false, not, cond, ◌&&◌, ◌||◌, List, [], ◌∷◌, ◌++◌, eqb, leb}
 use Rattle.std.proofs.Math.Decide.{dec_le}
 use Rattle.std.proofs.Common.{arith, sym, ◌∙◌, length-append, eqb-true, leb-true, leb-false, le-leb, lt-ltb, eq-eqb, ne_eqb}
 use Rattle.std.proofs.lemmas.Bool.{eqb-false, lt-leb}
-use Rattle.digits.specs.Tests.{and_left, and_right, or_right, each_below, at_each}
+use Rattle.digits.specs.Tests.{or_right, each_below, at_each}
 use Rattle.frames.specs.declared.Entry.{Entry}
 use Rattle.frames.specs.Limits.{boxes, masks, log_limit}
 use Rattle.frames.specs.Message.{Message}
@@ -11,7 +11,7 @@ use Rattle.frames.specs.Rules.{in_order}
 use Rattle.frames.specs.Clauses.{four}
 use Rattle.raft.specs.Majority.{bit, holds, majority, within}
 use Rattle.raft.specs.Record.{State, candidate, leader, last_index, of_box, is_other, zeros, is_vote, is_role, are_votes, is_progress, sends_to, has_progress, good}
-use Rattle.raft.specs.Commit.{highest, settled, settle}
+use Rattle.raft.specs.Commit.{settle}
 use Rattle.raft.specs.Sends.{vote_requests, appends}
 use Rattle.raft.specs.Outcome.{done, refuse}
 use Rattle.raft.specs.Timeout.{last_of_terms, standing, timeout}

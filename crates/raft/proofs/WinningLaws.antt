@@ -1,7 +1,7 @@
 -- What the blank does: it is behind the log where there is room, the first appends carry it and nothing else, and a park of one commits it at once; and what else
 -- winning changes. Assumes nothing.
-use Rattle.std.specs.Prelude.{ℕ, ◌+◌, ◌-◌, ◌≤◌, ◌<◌, ◌≡◌, refl, true, cond, ◌&&◌, List, [], ◌∷◌, ◌++◌, eqb, leb}
-use Rattle.std.proofs.Common.{arith, sym, ◌∙◌, length-append, le-leb, eq-eqb}
+use Rattle.std.specs.Prelude.{ℕ, ◌+◌, ◌-◌, ◌≤◌, ◌<◌, ◌≡◌, refl, true, cond, List, [], ◌∷◌, ◌++◌, eqb, leb}
+use Rattle.std.proofs.Common.{arith, sym, ◌∙◌, length-append, le-leb}
 use Rattle.std.proofs.Math.Seq.{drop-append_seam, drop-length}
 use Rattle.std.proofs.lemmas.Bool.{lt-leb}
 use Rattle.frames.specs.Limits.{boxes, log_limit}

@@ -1,7 +1,7 @@
 -- 01, 'Commit at a leader': "the largest index above commit whose entry has the current term and which a majority matches; otherwise
 -- unchanged". Assumes nothing.
-use Rattle.std.specs.Prelude.{ℕ, zero, suc, ◌+◌, Bool, cond, ◌&&◌, eqb, ltb, leb, length}
-use Rattle.raft.specs.Majority.{bit, holds, majority}
+use Rattle.std.specs.Prelude.{ℕ, zero, suc, ◌+◌, Bool, cond, ◌&&◌, eqb, ltb, leb}
+use Rattle.raft.specs.Majority.{bit, majority}
 use Rattle.raft.specs.Record.{State, last_index, term_at, of_box, with_commit}
 
 -- "The leader counts as matching its own last index."

@@ -1,7 +1,7 @@
 -- 01, 'Journal': the head, and the line of a step. Assumes nothing.
-use Rattle.std.specs.Prelude.{ℕ, suc, ◌+◌, Bool, true, false, cond, ◌&&◌, List, [], ◌∷◌, ◌++◌, eqb, length, drop}
+use Rattle.std.specs.Prelude.{ℕ, suc, Bool, cond, ◌&&◌, List, [], ◌∷◌, ◌++◌, eqb, length, drop}
 use Rattle.frames.specs.declared.Entry.{Entry}
-use Rattle.frames.specs.Message.{Field, number, entry_fields, spell, line_feed}
+use Rattle.frames.specs.Message.{number, entry_fields, spell, line_feed}
 use Rattle.raft.specs.Record.{State}
 
 -- "head 01, 11, box, mask"

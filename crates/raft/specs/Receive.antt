@@ -1,5 +1,5 @@
 -- What the bytes of a frame do to a good record: refusals 1 and 2, 'any message', then the kind. Assumes nothing.
-use Rattle.std.specs.Prelude.{ℕ, Bool, true, false, cond, ◌&&◌, List, [], ◌∷◌, eqb, ltb}
+use Rattle.std.specs.Prelude.{ℕ, Bool, false, cond, ◌&&◌, List, [], ◌∷◌, eqb, ltb}
 use Rattle.frames.specs.Message.{Message, vote_request, vote_answer, append, append_answer}
 use Rattle.frames.specs.Reading.{Reading, frame, refused, reading}
 use Rattle.raft.specs.Record.{State, is_other}

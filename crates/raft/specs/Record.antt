@@ -1,7 +1,7 @@
 -- 01, 'The box's record': what a box holds, the fresh box, and the rules that a record keeps. Assumes nothing.
-use Rattle.std.specs.Prelude.{ℕ, zero, suc, ◌+◌, ◌-◌, Bool, true, false, cond, ◌&&◌, ◌||◌, List, [], ◌∷◌, eqb, ltb, leb, length, get_or, take}
+use Rattle.std.specs.Prelude.{ℕ, zero, suc, ◌+◌, ◌-◌, Bool, false, cond, ◌&&◌, ◌||◌, List, [], ◌∷◌, eqb, ltb, leb, length, get_or, take}
 use Rattle.frames.specs.declared.Entry.{Entry}
-use Rattle.frames.specs.Limits.{boxes, masks, log_limit}
+use Rattle.frames.specs.Limits.{masks, log_limit}
 use Rattle.frames.specs.Rules.{is_box, in_order}
 use Rattle.frames.specs.Fields.{no_entry}
 use Rattle.raft.specs.Majority.{holds, within}

@@ -1,5 +1,5 @@
 -- What a box sends: vote requests, appends, in rising box number. Assumes nothing.
-use Rattle.std.specs.Prelude.{ℕ, zero, suc, ◌+◌, ◌-◌, Bool, cond, List, [], ◌∷◌, ◌++◌, length, take, drop}
+use Rattle.std.specs.Prelude.{ℕ, zero, suc, ◌-◌, cond, List, [], ◌∷◌, ◌++◌, take, drop}
 use Rattle.frames.specs.Limits.{boxes, entry_limit}
 use Rattle.frames.specs.Message.{Message, vote_request, append, text}
 use Rattle.raft.specs.Record.{State, last_index, last_term, term_at, of_box, is_other}

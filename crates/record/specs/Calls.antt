@@ -1,6 +1,6 @@
 -- The calls: the struct that the code has for a record, the log and the room that the caller lends, and what a call leaves in each.
 -- Assumes nothing.
-use Rattle.std.specs.Prelude.{ℕ, zero, suc, ◌+◌, ◌≡◌, Bool, true, cond, ◌&&◌, List, [], ◌∷◌, ◌++◌, map, leb, length, get_or}
+use Rattle.std.specs.Prelude.{ℕ, ◌≡◌, Bool, true, cond, ◌&&◌, List, leb, length}
 use Rattle.digits.specs.Room.{over}
 use Rattle.frames.specs.declared.Entry.{Entry}
 use Rattle.frames.specs.Limits.{log_limit}

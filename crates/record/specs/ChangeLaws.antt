@@ -1,12 +1,11 @@
 -- What is proved of a struct's changes: the numbers that the code finds, and the record that it makes. Assumes nothing.
-use Rattle.std.specs.Prelude.{ℕ, zero, suc, ◌+◌, ◌≤◌, ◌<◌, ◌≡◌, refl, Bool, true, cond, ◌&&◌, List, [], ◌∷◌, ◌++◌, eqb, ltb, leb, length}
-use Rattle.std.proofs.Common.{arith, sym, ap, ◌∙◌, length-append}
+use Rattle.std.specs.Prelude.{ℕ, ◌+◌, ◌≤◌, ◌<◌, ◌≡◌, cond, ◌&&◌, List, [], ◌∷◌, ◌++◌, eqb, ltb, length}
+use Rattle.std.proofs.Common.{arith, length-append}
 use Rattle.frames.specs.declared.Entry.{Entry}
 use Rattle.record.specs.declared.Record.{Record}
 use Rattle.frames.specs.Limits.{log_limit}
 use Rattle.raft.specs.Record.{State, leader, is_other, term_at}
-use Rattle.raft.specs.Majority.{bit, majority}
-use Rattle.raft.specs.Commit.{settled, settle, matches, matching, is_matched}
+use Rattle.raft.specs.Commit.{settled}
 use Rattle.raft.proofs.CommitLaws.{largest_low, settled_quick, Ranged, ranged}
 use Rattle.raft.specs.LargestMatch.{largest_matched}
 use Rattle.raft.specs.Order.{ordered}

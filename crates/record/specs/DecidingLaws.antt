@@ -1,5 +1,5 @@
 -- How a decision comes to stand for an outcome. Assumes nothing.
-use Rattle.std.specs.Prelude.{ℕ, ◌+◌, ◌-◌, ◌≤◌, ◌<◌, ◌≡◌, refl, true, length}
+use Rattle.std.specs.Prelude.{ℕ, ◌+◌, ◌-◌, ◌≤◌, ◌<◌, ◌≡◌}
 use Rattle.std.proofs.Common.{arith, sym, ap, ◌∙◌, subst, eq-eqb, ne_eqb}
 use mathlib.Core.List.{List, [], ◌∷◌, ◌++◌, append-nil}
 use Rattle.frames.specs.declared.Entry.{Entry}
@@ -8,7 +8,7 @@ use Rattle.frames.specs.Limits.{log_limit}
 use Rattle.record.specs.declared.Record.{Record}
 use Rattle.record.specs.declared.Send.{Send}
 use Rattle.record.specs.declared.Decision.{Decision}
-use Rattle.raft.specs.Record.{State, good}
+use Rattle.raft.specs.Record.{State}
 use Rattle.raft.proofs.RecordLaws.{Good, good-facts, facts-good}
 use Rattle.raft.specs.Journal.{kept}
 use Rattle.raft.proofs.JoinLaws.{kept_self, kept_more}
@@ -18,7 +18,7 @@ use Rattle.raft.specs.Event.{Event, step}
 use Rattle.raft.proofs.EventLaws.{step-good}
 use Rattle.raft.specs.LentLaws.{length-entries_of}
 use Rattle.record.specs.Calls.{entries_of, with_entries, state_of, run, Ready}
-use Rattle.record.specs.Deciding.{messages_of, one_entry, log_after, after, decided, Aimed, Decides, Sound, Becomes}
+use Rattle.record.specs.Deciding.{messages_of, one_entry, after, decided, Aimed, Decides, Sound, Becomes}
 use Rattle.record.specs.GoodLaws.{ready-last}
 
 -- ---- a step that leaves the log alone

@@ -16,7 +16,6 @@ use Rattle.raft.specs.Timeout.{last_of_terms, timeout, standing}
 use Rattle.raft.specs.Order.{is_full, blank, order}
 use Rattle.raft.specs.Prompt.{prompt}
 use Rattle.raft.specs.Sends.{texts, vote_requests}
-use Rattle.raft.specs.Led.{led}
 use Rattle.raft.specs.Winning.{won}
 use Rattle.raft.specs.Journal.{head, journaled, kept}
 use Rattle.raft.specs.Outcome.{Outcome, done, refuse}

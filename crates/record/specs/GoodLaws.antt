@@ -1,5 +1,5 @@
 -- The record's rules, as the code looks at them: in the struct and the lent terms, whatever the orders are. Assumes nothing.
-use Rattle.std.specs.Prelude.{ℕ, zero, suc, ◌+◌, ◌≤◌, ◌<◌, ◌≡◌, refl, Bool, true, false, ◌&&◌, List, [], eqb, ltb, leb, length, get_or}
+use Rattle.std.specs.Prelude.{ℕ, zero, suc, ◌≤◌, ◌<◌, ◌≡◌, refl, Bool, true, false, ◌&&◌, List, [], eqb, ltb, leb, get_or}
 use Rattle.std.proofs.Common.{arith, ap, ◌∙◌, le-leb}
 use Rattle.std.proofs.Math.Bool.{and-true, and-false}
 use Rattle.std.proofs.lemmas.Bool.{lt-leb}

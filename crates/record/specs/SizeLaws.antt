@@ -1,5 +1,5 @@
 -- How long messages are, and how they come to stand in the room one behind the other. Assumes nothing.
-use Rattle.std.specs.Prelude.{ℕ, zero, suc, ◌+◌, ◌-◌, ◌*◌, ◌≤◌, ◌<◌, min, ◌≡◌, refl, Bool, true, false, cond, List, [], ◌∷◌, ◌++◌, length, get_or, take, drop}
+use Rattle.std.specs.Prelude.{ℕ, zero, suc, ◌+◌, ◌-◌, ◌*◌, ◌≤◌, ◌<◌, ◌≡◌, refl, Bool, true, false, cond, List, [], ◌∷◌, ◌++◌, length, get_or, take, drop}
 use Rattle.std.proofs.Common.{zero-add, add-zero, add-suc, suc-add, add-one, arith, sym, ap, ◌∙◌, append_assoc, append-nil, length-append, length-take, length-drop, drop_of_length-le, drop-drop, take_all}
 use Rattle.std.proofs.Math.Decide.{dec_le}
 use Rattle.digits.specs.Room.{over}
@@ -12,8 +12,8 @@ use Rattle.frames.specs.Reading.{size}
 use Rattle.frames.specs.WritingLaws.{length-text, chars, chars-entries, entry_fields-append, put_more}
 use Rattle.record.specs.declared.Record.{Record}
 use Rattle.record.specs.declared.Send.{Send}
-use Rattle.raft.specs.Record.{State, last_index, term_at, of_box, is_other}
-use Rattle.raft.specs.Sends.{append_to, append_after, to_others, texts, vote_requests, appends, vote_request_to}
+use Rattle.raft.specs.Record.{State, term_at, is_other}
+use Rattle.raft.specs.Sends.{append_to, to_others, texts, vote_requests, appends, vote_request_to}
 use Rattle.raft.specs.LentLaws.{length-entries_of, entries_more, drop-entries, take-entries}
 use Rattle.record.specs.Calls.{entries_of, with_entries, state_of}
 use Rattle.record.specs.Deciding.{messages_of}

@@ -1,5 +1,5 @@
 -- How long a step's line and messages are, from the struct alone, what the code writes them from, and the step's answer. Assumes nothing.
-use Rattle.std.specs.Prelude.{ℕ, zero, suc, ◌+◌, ◌-◌, ◌*◌, ◌≤◌, min, ◌≡◌, Bool, true, cond, ◌&&◌, List, [], ◌∷◌, eqb, leb, length}
+use Rattle.std.specs.Prelude.{ℕ, zero, suc, ◌+◌, ◌-◌, ◌*◌, ◌≤◌, min, ◌≡◌, Bool, true, cond, ◌&&◌, List, [], eqb, leb, length}
 use Rattle.frames.specs.Limits.{boxes, IsBox, entry_limit}
 use Rattle.record.specs.declared.Record.{Record}
 use Rattle.record.specs.declared.Send.{Send}

@@ -1,7 +1,7 @@
 -- What is written of a decision is what its outcome leaves: the lent log, the journal line, the messages. Assumes nothing.
-use Rattle.std.specs.Prelude.{ℕ, zero, suc, ◌+◌, ◌-◌, ◌*◌, ◌≤◌, ◌<◌, ◌≡◌, Bool, cond, List, [], ◌∷◌, ◌++◌, leb, take, drop}
+use Rattle.std.specs.Prelude.{ℕ, ◌+◌, ◌-◌, ◌*◌, ◌≤◌, ◌≡◌, Bool, cond, List, [], ◌++◌, leb, take}
 use Rattle.std.proofs.Math.Nat.{zero-add}
-use Rattle.std.proofs.Common.{add-zero, sym, ◌∙◌, append-nil, length-append, take-append-drop, length-take-le, take_all}
+use Rattle.std.proofs.Common.{add-zero, sym, ◌∙◌, append-nil, length-append, take-append-drop, take_all}
 use native.Mathlib.Omega.{arith}
 use Rattle.std.proofs.Math.Path.{refl, ap}
 use Rattle.std.proofs.Math.Bool.{true, false}
@@ -14,21 +14,18 @@ use Rattle.digits.specs.RoomLaws.{over_nothing, length_over}
 use Rattle.frames.specs.declared.Entry.{Entry}
 use Rattle.frames.specs.Fields.{listed}
 use Rattle.frames.specs.Laws.{length-listed}
-use Rattle.frames.specs.Limits.{IsBox, log_limit}
-use Rattle.frames.specs.Message.{Message}
 use Rattle.frames.specs.WritingLaws.{length-spell, chars-entries}
 use Rattle.record.specs.declared.Record.{Record}
-use Rattle.record.specs.declared.Send.{Send}
 use Rattle.record.specs.declared.Decision.{Decision}
 use Rattle.record.specs.declared.Sizes.{Sizes}
-use Rattle.raft.specs.Record.{State, leader, is_other, is_progress, sends_to, good}
+use Rattle.raft.specs.Record.{State, is_progress, sends_to}
 use Rattle.raft.proofs.RecordLaws.{Good, sent-facts}
 use Rattle.raft.specs.Sends.{texts}
-use Rattle.raft.specs.Journal.{head, Line, line_text, kept, same_stored, line_of, journaled}
-use Rattle.raft.specs.Outcome.{Outcome, done, refuse}
-use Rattle.raft.specs.LentLaws.{length-entries_of, terms_are, orders_are, drop-entries, take-entries, stored-terms, stored-orders, stored-log, terms_long, orders_long}
-use Rattle.record.specs.Calls.{entries_of, terms_of, orders_of, with_entries, state_of, record_of, Called, untouched, fit, written, run, Runs}
-use Rattle.record.specs.Deciding.{messages_of, new_of, log_after, after, decided, Decides, Sound}
+use Rattle.raft.specs.Journal.{head, Line, line_text, same_stored, line_of, journaled}
+use Rattle.raft.specs.Outcome.{done}
+use Rattle.raft.specs.LentLaws.{length-entries_of, drop-entries, stored-terms, stored-orders, stored-log, terms_long, orders_long}
+use Rattle.record.specs.Calls.{entries_of, terms_of, orders_of, state_of, record_of, Called, fit, written, run, Runs}
+use Rattle.record.specs.Deciding.{messages_of, new_of, after, decided, Decides, Sound}
 use Rattle.record.specs.Sizes.{is_silent, line_bytes, line_size, sent_size, roomy, measured, Measurable, Sendable, Tellable, MayFit, MessagesFit}
 use Rattle.record.specs.SizeLaws.{sent-long}
 

@@ -1,9 +1,7 @@
 -- The shortest frame has 19 characters; the rest is the definition's own order.
 use native.Mathlib.Omega.{arith}
-use mathlib.Core.Path.{◌≡◌, sym, ◌∙◌}
-use mathlib.Core.Bool.{true}
-use borrow.Author.Tests.{not-false}
-use Rattle.frames.specs.Reading.{is_line, kind, is_headed, readable, shaped}
+use mathlib.Core.Path.{sym, ◌∙◌}
+use Rattle.frames.specs.Reading.{kind, is_headed, readable, shaped}
 use Rattle.frames.proofs.ReadingLaws.{unreadable, line-run, headed_kind}
 use Rattle.frame_reader.proofs.is_readable.Goals as goal
 

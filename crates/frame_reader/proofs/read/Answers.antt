@@ -1,8 +1,5 @@
 -- The form, then the rules: the reader's answers are the laws of `reading`.
-use mathlib.Core.Path.{◌≡◌, ap, sym, ◌∙◌}
-use mathlib.Core.Bool.{true}
-use borrow.Author.Tests.{not-false}
-use Rattle.frames.specs.Reading.{readable}
+use mathlib.Core.Path.{ap, sym, ◌∙◌}
 use Rattle.frames.specs.Fields.{answer}
 use Rattle.frames.proofs.ReadingLaws.{read-few, read-frame, read_disobeys, read_unreadable}
 use Rattle.frame_reader.proofs.read.Goals as goal

@@ -1,11 +1,8 @@
 -- 1 first, then 5, then the frame: the order of the definition.
 use native.Mathlib.Omega.{arith}
-use mathlib.Core.Path.{ap, ◌≡◌, sym, ◌∙◌}
-use mathlib.Core.Bool.{true}
-use borrow.Author.Tests.{not-false}
-use Rattle.frames.specs.Reading.{size, text_size}
+use mathlib.Core.Path.{ap, sym, ◌∙◌}
+use Rattle.frames.specs.Reading.{text_size}
 use Rattle.frames.proofs.ReadingLaws.{size-lt}
-use Rattle.frames.specs.Fields.{one_frame}
 use Rattle.frames.specs.WritingLaws.{whole, text-bytes, written-not, written-short, written-whole}
 use Rattle.frame_writer.proofs.write.Goals as goal
 

@@ -1,5 +1,4 @@
 -- With a full log the record that leads is settled as it is; otherwise it has room, and the blank is its entry.
-use borrow.Author.Rules.{rules}
 use native.Mathlib.Omega.{arith}
 use mathlib.Core.Path.{ap, ◌∙◌}
 use Rattle.raft.specs.Record.{State}

@@ -1,6 +1,5 @@
 -- The definition's four cases; a leader that has heard settles its commit.
 use native.Mathlib.Omega.{arith}
-use mathlib.Core.Bool.{true, false}
 use mathlib.Core.Path.{sym, ◌∙◌}
 use Rattle.record.specs.declared.Send.{Send}
 use Rattle.record.specs.Calls.{state_of}

@@ -1,11 +1,9 @@
 -- No frame is 1; what a frame's message decides, it decides for the bytes (`arrived`), and is finished with the entries that it brings.
 use mathlib.Core.Path.{◌∙◌}
 use Rattle.raft.specs.Event.{step, receives}
-use Rattle.raft.specs.Receive.{receive}
 use Rattle.record.specs.Calls.{state_of, run}
-use Rattle.record.specs.Deciding.{Decides}
 use Rattle.record.specs.DecidingLaws.{sound, finished, decides_as}
-use Rattle.messages.specs.Required.{brought, brings_blank, brings_own}
+use Rattle.messages.specs.Required.{brings_blank, brings_own}
 use Rattle.messages.specs.DeliverLaws.{read-not, read-frame}
 use Rattle.messages.proofs.receive.run_bytes.Goals as goal
 

@@ -1,5 +1,4 @@
 -- The definition's three cases; who wins is a candidate still, and good, so it can lead.
-use borrow.Author.Rules.{rules}
 use mathlib.Core.Path.{refl, sym, ◌∙◌}
 use Rattle.raft.specs.VoteAnswer.{adding, counts}
 use Rattle.record.specs.declared.Send.{Send}
