@@ -17,7 +17,7 @@ use Rattle.record.specs.Calls.{state_of, record_of}
 use Rattle.journal.specs.Lines.{lines, whole_bytes, mask_in}
 use Rattle.journal.proofs.LinesLaws.{Whole, strung, split, split_lines, lines-first, counted-line, whole-lines, whole-most}
 use Rattle.journal.proofs.LineSpelling.{line-whole, head-whole}
-use Rattle.journal.specs.Opening.{Replayed, next, breaks, replayed, opened, headless, broken, go_on, replay, is_head, open_lines, opening}
+use Rattle.journal.specs.Opening.{next, breaks, replayed, opened, headless, broken, go_on, replay, is_head, open_lines, opening}
 use Rattle.journal.proofs.OpeningLaws.{is_head_exactly}
 use Rattle.journal.proofs.OpeningExactly.{next_exactly}
 use Rattle.opening.specs.declared.Replayed as answers
