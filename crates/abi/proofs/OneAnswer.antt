@@ -34,12 +34,12 @@ same-steps e = (
 
 -- ---- `frame_read`: the number, and the 17 numbers
 
-pub frame-read_requires_nothing : (κs : _) (a : _) → frame-read.Pre κs a
-frame-read_requires_nothing κs a = tt
+pub frame_read_requires_nothing : (κs : _) (a : _) → frame-read.Pre κs a
+frame_read_requires_nothing κs a = tt
 
-pub frame-read-one-answer : (κs : _) (a : _) (r r' : _) (s s' : _) → frame-read.Post κs a r s → frame-read.Post κs a r' s'
+pub frame_read_one_answer : (κs : _) (a : _) (r r' : _) (s s' : _) → frame-read.Post κs a r s → frame-read.Post κs a r' s'
     → (r ≡ r') × (s.1.0.now ≡ s'.1.0.now)
-frame-read-one-answer κs a r r' s s' p q =
+frame_read_one_answer κs a r r' s s' p q =
     let same = p ∙ sym q in (
       ap (λ (x : ReadFlat). x.refusal) same,
       ap (λ (x : ReadFlat). x.numbers) same,
@@ -50,9 +50,9 @@ frame-read-one-answer κs a r r' s s' p q =
 pub frame_write_requires_nothing : (κs : _) (a : _) → frame-write.Pre κs a
 frame_write_requires_nothing κs a = tt
 
-pub frame_write_one-answer : (κs : _) (a : _) (r r' : _) (s s' : _) → frame-write.Post κs a r s → frame-write.Post κs a r' s'
+pub frame_write_one_answer : (κs : _) (a : _) (r r' : _) (s s' : _) → frame-write.Post κs a r s → frame-write.Post κs a r' s'
     → (r ≡ r') × (s.1.0.now ≡ s'.1.0.now)
-frame_write_one-answer κs a r r' s s' p q =
+frame_write_one_answer κs a r r' s s' p q =
     let same = p ∙ sym q in (
       ap (λ (x : WroteFlat). x.refusal) same,
       ap (λ (x : WroteFlat). x.room) same,
@@ -60,13 +60,13 @@ frame_write_one-answer κs a r r' s s' p q =
 
 -- ---- `box_start`: the number, the box, and the room
 
-pub box-start_requires_nothing : (κs : _) (a : _) → box-start.Pre κs a
-box-start_requires_nothing κs a = tt
+pub box_start_requires_nothing : (κs : _) (a : _) → box-start.Pre κs a
+box_start_requires_nothing κs a = tt
 
-pub box-start-one-answer : (κs : _) (a : _) (r r' : _) (s s' : _) → box-start.Post κs a r s → box-start.Post κs a r' s'
+pub box_start_one_answer : (κs : _) (a : _) (r r' : _) (s s' : _) → box-start.Post κs a r s → box-start.Post κs a r' s'
     → (r ≡ r') × (s.1.1.0.now ≡ s'.1.1.0.now)
     × (s.1.1.1.0.now ≡ s'.1.1.1.0.now)
-box-start-one-answer κs a r r' s s' p q =
+box_start_one_answer κs a r r' s s' p q =
     let same = p ∙ sym q in (
       ap (λ (x : StartFlat). x.answer) same,
       ap (λ (x : StartFlat). x.numbers) same,
@@ -75,58 +75,58 @@ box-start-one-answer κs a r r' s s' p q =
 
 -- ---- `box_timeout`: the number, the box, the log's terms and orders, the room for journal and messages, and the sizes
 
-pub box-timeout_requires_nothing : (κs : _) (a : _) → box-timeout.Pre κs a
-box-timeout_requires_nothing κs a = tt
+pub box_timeout_requires_nothing : (κs : _) (a : _) → box-timeout.Pre κs a
+box_timeout_requires_nothing κs a = tt
 
-pub box-timeout-one-answer : (κs : _) (a : _) (r r' : _) (s s' : _) → box-timeout.Post κs a r s → box-timeout.Post κs a r' s'
+pub box_timeout_one_answer : (κs : _) (a : _) (r r' : _) (s s' : _) → box-timeout.Post κs a r s → box-timeout.Post κs a r' s'
     → (r ≡ r') × (s.0.now ≡ s'.0.now) × (s.1.0.now ≡ s'.1.0.now) × (s.1.1.0.now ≡ s'.1.1.0.now)
     × (s.1.1.1.0.now ≡ s'.1.1.1.0.now) × (s.1.1.1.1.0.now ≡ s'.1.1.1.1.0.now)
     × (s.1.1.1.1.1.0.now ≡ s'.1.1.1.1.1.0.now)
-box-timeout-one-answer κs a r r' s s' p q = same-steps (p ∙ sym q)
+box_timeout_one_answer κs a r r' s s' p q = same-steps (p ∙ sym q)
 
 -- ---- `box_prompt`: the number, the box, the room for journal and messages, and the sizes; the log is lent to be read alone
 
-pub box-prompt_requires_nothing : (κs : _) (a : _) → box-prompt.Pre κs a
-box-prompt_requires_nothing κs a = tt
+pub box_prompt_requires_nothing : (κs : _) (a : _) → box-prompt.Pre κs a
+box_prompt_requires_nothing κs a = tt
 
-pub box-prompt-one-answer : (κs : _) (a : _) (r r' : _) (s s' : _) → box-prompt.Post κs a r s → box-prompt.Post κs a r' s'
+pub box_prompt_one_answer : (κs : _) (a : _) (r r' : _) (s s' : _) → box-prompt.Post κs a r s → box-prompt.Post κs a r' s'
     → (r ≡ r') × (s.0.now ≡ s'.0.now)
     × (s.1.1.1.0.now ≡ s'.1.1.1.0.now) × (s.1.1.1.1.0.now ≡ s'.1.1.1.1.0.now)
     × (s.1.1.1.1.1.0.now ≡ s'.1.1.1.1.1.0.now)
-box-prompt-one-answer κs a r r' s s' p q = let same = same-steps (p ∙ sym q) in (same.0, same.1, same.4, same.5, same.6)
+box_prompt_one_answer κs a r r' s s' p q = let same = same-steps (p ∙ sym q) in (same.0, same.1, same.4, same.5, same.6)
 
 -- ---- `box_order`: as `box_timeout`
 
-pub box-order_requires_nothing : (κs : _) (a : _) → box-order.Pre κs a
-box-order_requires_nothing κs a = tt
+pub box_order_requires_nothing : (κs : _) (a : _) → box-order.Pre κs a
+box_order_requires_nothing κs a = tt
 
-pub box-order-one-answer : (κs : _) (a : _) (r r' : _) (s s' : _) → box-order.Post κs a r s → box-order.Post κs a r' s'
+pub box_order_one_answer : (κs : _) (a : _) (r r' : _) (s s' : _) → box-order.Post κs a r s → box-order.Post κs a r' s'
     → (r ≡ r') × (s.1.0.now ≡ s'.1.0.now)
     × (s.1.1.0.now ≡ s'.1.1.0.now) × (s.1.1.1.0.now ≡ s'.1.1.1.0.now)
     × (s.1.1.1.1.0.now ≡ s'.1.1.1.1.0.now) × (s.1.1.1.1.1.0.now ≡ s'.1.1.1.1.1.0.now)
     × (s.1.1.1.1.1.1.0.now ≡ s'.1.1.1.1.1.1.0.now)
-box-order-one-answer κs a r r' s s' p q = same-steps (p ∙ sym q)
+box_order_one_answer κs a r r' s s' p q = same-steps (p ∙ sym q)
 
 -- ---- `box_receive`: the same
 
-pub box-receive_requires_nothing : (κs : _) (a : _) → box-receive.Pre κs a
-box-receive_requires_nothing κs a = tt
+pub box_receive_requires_nothing : (κs : _) (a : _) → box-receive.Pre κs a
+box_receive_requires_nothing κs a = tt
 
-pub box-receive-one-answer : (κs : _) (a : _) (r r' : _) (s s' : _) → box-receive.Post κs a r s → box-receive.Post κs a r' s'
+pub box_receive_one_answer : (κs : _) (a : _) (r r' : _) (s s' : _) → box-receive.Post κs a r s → box-receive.Post κs a r' s'
     → (r ≡ r') × (s.1.0.now ≡ s'.1.0.now)
     × (s.1.1.0.now ≡ s'.1.1.0.now) × (s.1.1.1.0.now ≡ s'.1.1.1.0.now)
     × (s.1.1.1.1.0.now ≡ s'.1.1.1.1.0.now) × (s.1.1.1.1.1.0.now ≡ s'.1.1.1.1.1.0.now)
     × (s.1.1.1.1.1.1.0.now ≡ s'.1.1.1.1.1.1.0.now)
-box-receive-one-answer κs a r r' s s' p q = same-steps (p ∙ sym q)
+box_receive_one_answer κs a r r' s s' p q = same-steps (p ∙ sym q)
 
 -- ---- `box_handed_out`: the number, and the count
 
 pub box_handed_out_requires_nothing : (κs : _) (a : _) → box-handed-out.Pre κs a
 box_handed_out_requires_nothing κs a = tt
 
-pub box_handed_out_one-answer : (κs : _) (a : _) (r r' : _) (s s' : _) → box-handed-out.Post κs a r s → box-handed-out.Post κs a r' s'
+pub box_handed_out_one_answer : (κs : _) (a : _) (r r' : _) (s s' : _) → box-handed-out.Post κs a r s → box-handed-out.Post κs a r' s'
     → (r ≡ r') × (s.1.1.1.0.now ≡ s'.1.1.1.0.now)
-box_handed_out_one-answer κs a r r' s s' p q =
+box_handed_out_one_answer κs a r r' s s' p q =
     let same = p ∙ sym q in (
       ap (λ (x : HandedFlat). x.refusal) same,
       ap (λ (x : HandedFlat). x.count) same,
@@ -137,11 +137,11 @@ box_handed_out_one-answer κs a r r' s s' p q =
 pub journal_open_requires_nothing : (κs : _) (a : _) → journal-open.Pre κs a
 journal_open_requires_nothing κs a = tt
 
-pub journal_open_one-answer : (κs : _) (a : _) (r r' : _) (s s' : _) → journal-open.Post κs a r s → journal-open.Post κs a r' s'
+pub journal_open_one_answer : (κs : _) (a : _) (r r' : _) (s s' : _) → journal-open.Post κs a r s → journal-open.Post κs a r' s'
     → (r ≡ r') × (s.1.1.0.now ≡ s'.1.1.0.now)
     × (s.1.1.1.0.now ≡ s'.1.1.1.0.now) × (s.1.1.1.1.0.now ≡ s'.1.1.1.1.0.now)
     × (s.1.1.1.1.1.0.now ≡ s'.1.1.1.1.1.0.now)
-journal_open_one-answer κs a r r' s s' p q =
+journal_open_one_answer κs a r r' s s' p q =
     let same = p ∙ sym q in (
       ap (λ (x : OpenFlat). x.refusal) same,
       ap (λ (x : OpenFlat). x.numbers) same,
@@ -152,13 +152,13 @@ journal_open_one-answer κs a r r' s s' p q =
 
 -- ---- `journal_replay`: the number, the box, and the log's terms and orders
 
-pub journal-replay_requires_nothing : (κs : _) (a : _) → journal-replay.Pre κs a
-journal-replay_requires_nothing κs a = tt
+pub journal_replay_requires_nothing : (κs : _) (a : _) → journal-replay.Pre κs a
+journal_replay_requires_nothing κs a = tt
 
-pub journal-replay-one-answer : (κs : _) (a : _) (r r' : _) (s s' : _) → journal-replay.Post κs a r s → journal-replay.Post κs a r' s'
+pub journal_replay_one_answer : (κs : _) (a : _) (r r' : _) (s s' : _) → journal-replay.Post κs a r s → journal-replay.Post κs a r' s'
     → (r ≡ r') × (s.1.0.now ≡ s'.1.0.now)
     × (s.1.1.0.now ≡ s'.1.1.0.now) × (s.1.1.1.0.now ≡ s'.1.1.1.0.now)
-journal-replay-one-answer κs a r r' s s' p q =
+journal_replay_one_answer κs a r r' s s' p q =
     let same = p ∙ sym q in (
       ap (λ (x : ReplayFlat). x.refusal) same,
       ap (λ (x : ReplayFlat). x.numbers) same,
@@ -168,17 +168,17 @@ journal-replay-one-answer κs a r r' s s' p q =
 
 -- ---- `order_from_bytes`: the number
 
-pub order-from-bytes_requires_nothing : (κs : _) (a : _) → order-from-bytes.Pre κs a
-order-from-bytes_requires_nothing κs a = tt
+pub order_from_bytes_requires_nothing : (κs : _) (a : _) → order-from-bytes.Pre κs a
+order_from_bytes_requires_nothing κs a = tt
 
-pub order-from-bytes-one-answer : (κs : _) (a : _) (r r' : _) (s s' : _) → order-from-bytes.Post κs a r s → order-from-bytes.Post κs a r' s' → r ≡ r'
-order-from-bytes-one-answer κs a r r' s s' p q = p ∙ sym q
+pub order_from_bytes_one_answer : (κs : _) (a : _) (r r' : _) (s s' : _) → order-from-bytes.Post κs a r s → order-from-bytes.Post κs a r' s' → r ≡ r'
+order_from_bytes_one_answer κs a r r' s s' p q = p ∙ sym q
 
 -- ---- `order_to_bytes`: the bytes
 
-pub order-to-bytes_requires_nothing : (κs : _) (a : _) → order-to-bytes.Pre κs a
-order-to-bytes_requires_nothing κs a = tt
+pub order_to_bytes_requires_nothing : (κs : _) (a : _) → order-to-bytes.Pre κs a
+order_to_bytes_requires_nothing κs a = tt
 
-pub order-to-bytes-one-answer : (κs : _) (a : _) (r r' : _) (s s' : _) → order-to-bytes.Post κs a r s → order-to-bytes.Post κs a r' s'
+pub order_to_bytes_one_answer : (κs : _) (a : _) (r r' : _) (s s' : _) → order-to-bytes.Post κs a r s → order-to-bytes.Post κs a r' s'
     → s.1.0.now ≡ s'.1.0.now
-order-to-bytes-one-answer κs a r r' s s' p q = p ∙ sym q
+order_to_bytes_one_answer κs a r r' s s' p q = p ∙ sym q

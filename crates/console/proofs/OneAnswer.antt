@@ -13,9 +13,9 @@ use Rattle.console.proofs.blocks.answer_lines.Reads as answer-lines
 pub begin_requires_nothing : (κs : _) (a : _) → begin.Pre κs a
 begin_requires_nothing κs a = tt
 
-pub begin_one-answer : (κs : _) (a : _) (r r' : _) (s s' : _) → begin.Post κs a r s → begin.Post κs a r' s'
+pub begin_one_answer : (κs : _) (a : _) (r r' : _) (s s' : _) → begin.Post κs a r s → begin.Post κs a r' s'
     → (r ≡ r') × (s.1.0.now ≡ s'.1.0.now)
-begin_one-answer κs a r r' s s' p q =
+begin_one_answer κs a r r' s s' p q =
     let same = p.0 ∙ sym q.0 in
     (ap (λ (x : Beginning). x.answer) same, ap (λ (x : Beginning). x.room) same)
 
@@ -24,10 +24,10 @@ begin_one-answer κs a r r' s s' p q =
 pub answer_requires_nothing : (κs : _) (a : _) → answer.Pre κs a
 answer_requires_nothing κs a = tt
 
-pub answer-one-answer : (κs : _) (a : _) (r r' : _) (s s' : _) → answer.Post κs a r s → answer.Post κs a r' s'
+pub answer_one_answer : (κs : _) (a : _) (r r' : _) (s s' : _) → answer.Post κs a r s → answer.Post κs a r' s'
     → (r ≡ r') × (s.1.1.0.now ≡ s'.1.1.0.now) × (s.1.1.1.0.now ≡ s'.1.1.1.0.now)
     × (s.1.1.1.1.0.now ≡ s'.1.1.1.1.0.now)
-answer-one-answer κs a r r' s s' p q =
+answer_one_answer κs a r r' s s' p q =
     let same = p ∙ sym q in (
       ap (λ (x : AfterLine). x.answer) same,
       ap (λ (x : AfterLine). x.terms) same,
@@ -37,13 +37,13 @@ answer-one-answer κs a r r' s s' p q =
 
 -- ---- `answer_lines`: the same. (Its other promise is a bound on the answer.)
 
-pub answer-lines_requires_nothing : (κs : _) (a : _) → answer-lines.Pre κs a
-answer-lines_requires_nothing κs a = tt
+pub answer_lines_requires_nothing : (κs : _) (a : _) → answer-lines.Pre κs a
+answer_lines_requires_nothing κs a = tt
 
-pub answer-lines-one-answer : (κs : _) (a : _) (r r' : _) (s s' : _) → answer-lines.Post κs a r s → answer-lines.Post κs a r' s'
+pub answer_lines_one_answer : (κs : _) (a : _) (r r' : _) (s s' : _) → answer-lines.Post κs a r s → answer-lines.Post κs a r' s'
     → (r ≡ r') × (s.1.1.0.now ≡ s'.1.1.0.now) × (s.1.1.1.0.now ≡ s'.1.1.1.0.now)
     × (s.1.1.1.1.0.now ≡ s'.1.1.1.1.0.now)
-answer-lines-one-answer κs a r r' s s' p q =
+answer_lines_one_answer κs a r r' s s' p q =
     let same = p.0 ∙ sym q.0 in (
       ap (λ (x : AfterLines). x.answer) same,
       ap (λ (x : AfterLines). x.terms) same,

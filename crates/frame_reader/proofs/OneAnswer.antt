@@ -6,5 +6,5 @@ use Rattle.frame_reader.proofs.read.Reads as read
 pub read_requires_nothing : (κs : _) (a : _) → read.Pre κs a
 read_requires_nothing κs a = tt
 
-pub read-one-answer : (κs : _) (a : _) (r r' : _) (s s' : _) → read.Post κs a r s → read.Post κs a r' s' → r ≡ r'
-read-one-answer κs a r r' s s' p q = p ∙ sym q
+pub read_one_answer : (κs : _) (a : _) (r r' : _) (s s' : _) → read.Post κs a r s → read.Post κs a r' s' → r ≡ r'
+read_one_answer κs a r r' s s' p q = p ∙ sym q

@@ -8,7 +8,7 @@ use Rattle.frame_writer.proofs.write.Reads as write
 pub write_requires_nothing : (κs : _) (a : _) → write.Pre κs a
 write_requires_nothing κs a = tt
 
-pub write_one-answer : (κs : _) (a : _) (r r' : _) (s s' : _) → write.Post κs a r s → write.Post κs a r' s' → (r ≡ r') × (s.0.now ≡ s'.0.now)
-write_one-answer κs a r r' s s' p q =
+pub write_one_answer : (κs : _) (a : _) (r r' : _) (s s' : _) → write.Post κs a r s → write.Post κs a r' s' → (r ≡ r') × (s.0.now ≡ s'.0.now)
+write_one_answer κs a r r' s s' p q =
     let same = p ∙ sym q in
     (ap (λ (x : Wrote). x.answer) same, ap (λ (x : Wrote). x.room) same)

@@ -13,7 +13,7 @@ use Rattle.raft.specs.Journal.{head, Line}
 use Rattle.raft.proofs.RecordLaws.{Good, good-facts, facts-good, fresh-good}
 use Rattle.raft.proofs.StepLaws.{in_order-later, none-of_box}
 use Rattle.raft.proofs.SendLaws.{All}
-use Rattle.raft.proofs.FitLaws.{all_take, EightBytes, Fits}
+use Rattle.raft.proofs.FitLaws.{all_take, OrderFits, Fits}
 use Rattle.raft.proofs.ReceiveLaws.{in_order-behind}
 use Rattle.raft.proofs.ReceiveSends.{orders-sized, all_both}
 use Rattle.journal.specs.Lines.{lines, whole_bytes, box_in, mask_in, head_shaped, line_shaped, line_in}
@@ -157,7 +157,7 @@ after-fits s l f z =
     let (version, (kind, (box, (term, (vote, (kept, (count, entries))))))) = z in
     record {
       term = term;
-      orders = all_both EightBytes _ _ (all_take EightBytes l.kept s.log f.orders) (orders-sized l.entries entries);
+      orders = all_both OrderFits _ _ (all_take OrderFits l.kept s.log f.orders) (orders-sized l.entries entries);
     }
 
 -- So a line that is replayed keeps all of this.

@@ -19,7 +19,7 @@ use Rattle.raft.specs.Record.{State, is_vote}
 use Rattle.raft.specs.Journal.{line_text, kept, same_stored, line_of, journaled}
 use Rattle.raft.proofs.RecordLaws.{box_range, Good, member-facts}
 use Rattle.raft.proofs.SendLaws.{in_order-drop}
-use Rattle.raft.proofs.FitLaws.{all_drop, EightBytes, Fits, entries-sized}
+use Rattle.raft.proofs.FitLaws.{all_drop, OrderFits, Fits, entries-sized}
 use Rattle.journal.proofs.LineSpelling.{line_fields, line_reads}
 use Rattle.journal.specs.Opening.{restarted, vote_stays, after, next, replayed}
 use Rattle.journal.proofs.OpeningLaws.{Allowed, facts-allowed}
@@ -107,7 +107,7 @@ module _ (s t : State) (k : Good t) (f : Fits t) (m : Moved s t) where
     where
       entries : IsSized (entry_fields (drop (kept s.log t.log) t.log))
       entries =
-          entries-sized _ t.term _ f.term (all_drop EightBytes (kept s.log t.log) t.log f.orders)
+          entries-sized _ t.term _ f.term (all_drop OrderFits (kept s.log t.log) t.log f.orders)
           (in_order-drop t.term t.log (kept s.log t.log) (kept-most s.log t.log).1 k.order)
 
   -- and what it replays to is the stored part after the step.

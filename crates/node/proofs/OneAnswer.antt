@@ -42,17 +42,17 @@ same-called r r' e = (
 pub fresh_requires_nothing : (κs : _) (a : _) → fresh.Pre κs a
 fresh_requires_nothing κs a = tt
 
-pub fresh-one-answer : (κs : _) (a : _) (r r' : _) (s s' : _) → fresh.Post κs a r s → fresh.Post κs a r' s' → r ≡ r'
-fresh-one-answer κs a r r' s s' p q = p ∙ sym q
+pub fresh_one_answer : (κs : _) (a : _) (r r' : _) (s s' : _) → fresh.Post κs a r s → fresh.Post κs a r' s' → r ≡ r'
+fresh_one_answer κs a r r' s s' p q = p ∙ sym q
 
 -- ---- `start`: the answer, and the journal's room
 
 pub start_requires_nothing : (κs : _) (a : _) → start.Pre κs a
 start_requires_nothing κs a = tt
 
-pub start-one-answer : (κs : _) (a : _) (r r' : _) (s s' : _) → start.Post κs a r s → start.Post κs a r' s'
+pub start_one_answer : (κs : _) (a : _) (r r' : _) (s s' : _) → start.Post κs a r s → start.Post κs a r' s'
     → (r ≡ r') × (s.1.1.0.now ≡ s'.1.1.0.now)
-start-one-answer κs a r r' s s' p q =
+start_one_answer κs a r r' s s' p q =
     let same = p ∙ sym q in (
       ap (λ (x : Begun). record { refusal = x.answer.refusal; node = record { state = x.answer.state }; bytes = x.answer.bytes }) same,
       ap (λ (x : Begun). x.journal) same,
@@ -63,40 +63,40 @@ start-one-answer κs a r r' s s' p q =
 pub prompt_requires_nothing : (κs : _) (a : _) → prompt.Pre κs a
 prompt_requires_nothing κs a = tt
 
-pub prompt-one-answer : (κs : _) (a : _) (r r' : _) (s s' : _) → prompt.Post κs a r s → prompt.Post κs a r' s'
+pub prompt_one_answer : (κs : _) (a : _) (r r' : _) (s s' : _) → prompt.Post κs a r s → prompt.Post κs a r' s'
     → (r ≡ r') × (s.1.1.1.0.now ≡ s'.1.1.1.0.now) × (s.1.1.1.1.0.now ≡ s'.1.1.1.1.0.now)
-prompt-one-answer κs a r r' s s' p q = let same = same-called r r' (p ∙ sym q) in (same.0, same.3, same.4)
+prompt_one_answer κs a r r' s s' p q = let same = same-called r r' (p ∙ sym q) in (same.0, same.3, same.4)
 
 -- ---- `timeout`, `order` and `receive`: the answer, the log's terms and orders, and the room for journal and messages
 
 pub timeout_requires_nothing : (κs : _) (a : _) → timeout.Pre κs a
 timeout_requires_nothing κs a = tt
 
-pub timeout-one-answer : (κs : _) (a : _) (r r' : _) (s s' : _) → timeout.Post κs a r s → timeout.Post κs a r' s'
+pub timeout_one_answer : (κs : _) (a : _) (r r' : _) (s s' : _) → timeout.Post κs a r s → timeout.Post κs a r' s'
     → (r ≡ r') × (s.1.0.now ≡ s'.1.0.now) × (s.1.1.0.now ≡ s'.1.1.0.now)
     × (s.1.1.1.0.now ≡ s'.1.1.1.0.now) × (s.1.1.1.1.0.now ≡ s'.1.1.1.1.0.now)
-timeout-one-answer κs a r r' s s' p q = same-called r r' (p ∙ sym q)
+timeout_one_answer κs a r r' s s' p q = same-called r r' (p ∙ sym q)
 
 pub order_requires_nothing : (κs : _) (a : _) → order.Pre κs a
 order_requires_nothing κs a = tt
 
-pub order-one-answer : (κs : _) (a : _) (r r' : _) (s s' : _) → order.Post κs a r s → order.Post κs a r' s'
+pub order_one_answer : (κs : _) (a : _) (r r' : _) (s s' : _) → order.Post κs a r s → order.Post κs a r' s'
     → (r ≡ r') × (s.1.1.0.now ≡ s'.1.1.0.now) × (s.1.1.1.0.now ≡ s'.1.1.1.0.now)
     × (s.1.1.1.1.0.now ≡ s'.1.1.1.1.0.now) × (s.1.1.1.1.1.0.now ≡ s'.1.1.1.1.1.0.now)
-order-one-answer κs a r r' s s' p q = same-called r r' (p ∙ sym q)
+order_one_answer κs a r r' s s' p q = same-called r r' (p ∙ sym q)
 
 pub receive_requires_nothing : (κs : _) (a : _) → receive.Pre κs a
 receive_requires_nothing κs a = tt
 
-pub receive-one-answer : (κs : _) (a : _) (r r' : _) (s s' : _) → receive.Post κs a r s → receive.Post κs a r' s'
+pub receive_one_answer : (κs : _) (a : _) (r r' : _) (s s' : _) → receive.Post κs a r s → receive.Post κs a r' s'
     → (r ≡ r') × (s.1.1.0.now ≡ s'.1.1.0.now) × (s.1.1.1.0.now ≡ s'.1.1.1.0.now)
     × (s.1.1.1.1.0.now ≡ s'.1.1.1.1.0.now) × (s.1.1.1.1.1.0.now ≡ s'.1.1.1.1.1.0.now)
-receive-one-answer κs a r r' s s' p q = same-called r r' (p ∙ sym q)
+receive_one_answer κs a r r' s s' p q = same-called r r' (p ∙ sym q)
 
 -- ---- `handed_out`: the answer
 
 pub handed_out_requires_nothing : (κs : _) (a : _) → Handed-out.Pre κs a
 handed_out_requires_nothing κs a = tt
 
-pub handed_out-one-answer : (κs : _) (a : _) (r r' : _) (s s' : _) → Handed-out.Post κs a r s → Handed-out.Post κs a r' s' → r ≡ r'
-handed_out-one-answer κs a r r' s s' p q = p ∙ sym q
+pub handed_out_one_answer : (κs : _) (a : _) (r r' : _) (s s' : _) → Handed-out.Post κs a r s → Handed-out.Post κs a r' s' → r ≡ r'
+handed_out_one_answer κs a r r' s s' p q = p ∙ sym q

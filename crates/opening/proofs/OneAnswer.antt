@@ -13,9 +13,9 @@ use Rattle.opening.proofs.blocks.replay_lines.Reads as replay-lines
 pub open_requires_nothing : (κs : _) (a : _) → opens.Pre κs a
 open_requires_nothing κs a = tt
 
-pub open_one-answer : (κs : _) (a : _) (r r' : _) (s s' : _) → opens.Post κs a r s → opens.Post κs a r' s'
+pub open_one_answer : (κs : _) (a : _) (r r' : _) (s s' : _) → opens.Post κs a r s → opens.Post κs a r' s'
     → (r ≡ r') × (s.1.1.0.now ≡ s'.1.1.0.now) × (s.1.1.1.0.now ≡ s'.1.1.1.0.now)
-open_one-answer κs a r r' s s' p q =
+open_one_answer κs a r r' s s' p q =
     let same = p ∙ sym q in
     (ap (λ (x : Opening). x.answer) same, ap (λ (x : Opening). x.terms) same, ap (λ (x : Opening). x.orders) same)
 
@@ -24,27 +24,27 @@ open_one-answer κs a r r' s s' p q =
 pub replay_requires_nothing : (κs : _) (a : _) → replay.Pre κs a
 replay_requires_nothing κs a = tt
 
-pub replay-one-answer : (κs : _) (a : _) (r r' : _) (s s' : _) → replay.Post κs a r s → replay.Post κs a r' s'
+pub replay_one_answer : (κs : _) (a : _) (r r' : _) (s s' : _) → replay.Post κs a r s → replay.Post κs a r' s'
     → (r ≡ r') × (s.1.1.0.now ≡ s'.1.1.0.now) × (s.1.1.1.0.now ≡ s'.1.1.1.0.now)
-replay-one-answer κs a r r' s s' p q =
+replay_one_answer κs a r r' s s' p q =
     let same = p ∙ sym q in
     (ap (λ (x : Replaying). x.answer) same, ap (λ (x : Replaying). x.terms) same, ap (λ (x : Replaying). x.orders) same)
 
 -- ---- `replay_head`: the answer
 
-pub replay-head_requires_nothing : (κs : _) (a : _) → replay-head.Pre κs a
-replay-head_requires_nothing κs a = tt
+pub replay_head_requires_nothing : (κs : _) (a : _) → replay-head.Pre κs a
+replay_head_requires_nothing κs a = tt
 
-pub replay-head-one-answer : (κs : _) (a : _) (r r' : _) (s s' : _) → replay-head.Post κs a r s → replay-head.Post κs a r' s' → r ≡ r'
-replay-head-one-answer κs a r r' s s' p q = p ∙ sym q
+pub replay_head_one_answer : (κs : _) (a : _) (r r' : _) (s s' : _) → replay-head.Post κs a r s → replay-head.Post κs a r' s' → r ≡ r'
+replay_head_one_answer κs a r r' s s' p q = p ∙ sym q
 
 -- ---- `replay_lines`: the answer, and the log's terms and orders
 
-pub replay-lines_requires_nothing : (κs : _) (a : _) → replay-lines.Pre κs a
-replay-lines_requires_nothing κs a = tt
+pub replay_lines_requires_nothing : (κs : _) (a : _) → replay-lines.Pre κs a
+replay_lines_requires_nothing κs a = tt
 
-pub replay-lines-one-answer : (κs : _) (a : _) (r r' : _) (s s' : _) → replay-lines.Post κs a r s → replay-lines.Post κs a r' s'
+pub replay_lines_one_answer : (κs : _) (a : _) (r r' : _) (s s' : _) → replay-lines.Post κs a r s → replay-lines.Post κs a r' s'
     → (r ≡ r') × (s.1.1.0.now ≡ s'.1.1.0.now) × (s.1.1.1.0.now ≡ s'.1.1.1.0.now)
-replay-lines-one-answer κs a r r' s s' p q =
+replay_lines_one_answer κs a r r' s s' p q =
     let same = p.leaves ∙ sym q.leaves in
     (ap (λ (x : Blocks). x.answer) same, ap (λ (x : Blocks). x.terms) same, ap (λ (x : Blocks). x.orders) same)

@@ -6,5 +6,5 @@ use Rattle.printing.proofs.looking.asked.Reads as asked
 pub asked_requires_nothing : (κs : _) (a : _) → asked.Pre κs a
 asked_requires_nothing κs a = tt
 
-pub asked-one-answer : (κs : _) (a : _) (r r' : _) (s s' : _) → asked.Post κs a r s → asked.Post κs a r' s' → r ≡ r'
-asked-one-answer κs a r r' s s' p q = p ∙ sym q
+pub asked_one_answer : (κs : _) (a : _) (r r' : _) (s s' : _) → asked.Post κs a r s → asked.Post κs a r' s' → r ≡ r'
+asked_one_answer κs a r r' s s' p q = p ∙ sym q

@@ -44,13 +44,13 @@ all_more P (x ∷ xs) y a p = (a.0, all_more P xs y a.1 p)
 -- ---- what the code's types say of a record
 
 -- An order is 8 bytes.
-abbrev pub EightBytes : Entry → Type 0
-EightBytes e = e.order < 18446744073709551616
+abbrev pub OrderFits : Entry → Type 0
+OrderFits e = e.order < 18446744073709551616
 
 -- A term is 4 bytes. (The other numbers are small where the record is good.)
 pub record Fits (s : State) : Type 0 where
   pub term : s.term < 4294967296
-  pub orders : All EightBytes s.log
+  pub orders : All OrderFits s.log
 
 -- It stays so for a box that stands in a term that is not the last,
 pub standing-fits : (s : State) → Fits s → (s.term ≡ last_of_terms → ⊥) → Fits (standing s)
@@ -70,7 +70,7 @@ settle-fits s f = record { term = f.term; orders = f.orders }
 -- that takes an order of 8 bytes,
 pub ordered-fits : (s : State) (o : ℕ) → Fits s → o < 18446744073709551616 → Fits (ordered s o)
 unfolding ordered
-ordered-fits s o f b = record { term = f.term; orders = all_more EightBytes s.log _ f.orders b }
+ordered-fits s o f b = record { term = f.term; orders = all_more OrderFits s.log _ f.orders b }
 
 -- and that wins.
 pub winner-fits : (s : State) → Fits s → Fits (winner s)
@@ -79,7 +79,7 @@ winner-fits s f = winner-ends Fits s (leading-fits s f) (λ l. ordered-fits (lea
 -- ---- one message
 
 -- entries of terms in order and orders of 8 bytes fit their fields
-pub entries-sized : (previous term : ℕ) (es : List Entry) → term < 4294967296 → All EightBytes es → in_order previous term es ≡ true
+pub entries-sized : (previous term : ℕ) (es : List Entry) → term < 4294967296 → All OrderFits es → in_order previous term es ≡ true
     → IsSized (entry_fields es)
 unfolding All entry_fields IsSized
 entries-sized previous term [] t a h = tt
@@ -108,7 +108,7 @@ append_after-sized s g f p l i h =
     entries : IsSized (entry_fields (take entry_limit (drop p s.log)))
     entries =
         entries-sized (term_at s.log p) s.term _ f.term
-        (all_take EightBytes entry_limit _ (all_drop EightBytes p s.log f.orders))
+        (all_take OrderFits entry_limit _ (all_drop OrderFits p s.log f.orders))
         (in_order-take _ s.term (drop p s.log) entry_limit (in_order-drop s.term s.log p l g.order))
 
 -- as a leader's append is.

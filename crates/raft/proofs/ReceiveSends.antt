@@ -21,7 +21,7 @@ use Rattle.raft.proofs.CommitLaws.{by_test}
 use Rattle.raft.proofs.RecordLaws.{Good, good-facts, member-facts}
 use Rattle.raft.proofs.StepLaws.{winner-leads}
 use Rattle.raft.proofs.SendLaws.{start-there, append-obeys, All, Obey, settled_obey}
-use Rattle.raft.proofs.FitLaws.{all_take, all_drop, EightBytes, Fits, winner-fits, settle-fits, append-sized, Sized, settled-sized}
+use Rattle.raft.proofs.FitLaws.{all_take, all_drop, OrderFits, Fits, winner-fits, settle-fits, append-sized, Sized, settled-sized}
 use Rattle.raft.proofs.ReceiveLaws.{taken-by, taken-least, Ends, vote_request-ends, vote_answer-ends, append-ends, Hears, settled_heard, append_answer-ends, Sender}
 use Rattle.raft.proofs.ReceiveLaws.{Arrives, receive-ends, sent-by, offer-facts, good-taken, good-following, good-granted, good_elected, good-joined, good-settled_heard}
 
@@ -90,14 +90,14 @@ term-sized (append from to term index prior commit es) z = z.1.1.1.1.0
 term-sized (append_answer from to term reply index) z = z.1.1.1.1.0
 
 -- and so the orders of entries that fit their fields are 8
-pub orders-sized : (es : List Entry) → IsSized (entry_fields es) → All EightBytes es
+pub orders-sized : (es : List Entry) → IsSized (entry_fields es) → All OrderFits es
 unfolding IsSized entry_fields All
 orders-sized [] z = tt
 orders-sized (e ∷ es) z = (z.1.0, orders-sized es z.1.1)
 
 -- as are those of an append
 append-orders : (from to term index prior commit : ℕ) (es : List Entry) → IsSized (table (append from to term index prior commit es))
-    → All EightBytes es
+    → All OrderFits es
 unfolding table IsSized
 append-orders from to term index prior commit es z = orders-sized es z.1.1.1.1.1.1.1.1.1
 
@@ -130,14 +130,14 @@ unfolding following
 following-fits s f = record { term = f.term; orders = f.orders }
 
 -- that joins entries to its log,
-pub joining-fits : (s : State) (index commit : ℕ) (es : List Entry) → Fits s → All EightBytes es → Fits (joining s index commit es)
+pub joining-fits : (s : State) (index commit : ℕ) (es : List Entry) → Fits s → All OrderFits es → Fits (joining s index commit es)
 unfolding joining joined
 joining-fits s index commit es f b =
     record {
       term = f.term;
-      orders = by_test (All EightBytes) (passes s.log index es) s.log _ (λ p. f.orders)
-          (λ p. all_both EightBytes _ _ (all_take EightBytes (stop s.log index es) s.log f.orders)
-          (all_drop EightBytes (agreed (drop index s.log) es) es b));
+      orders = by_test (All OrderFits) (passes s.log index es) s.log _ (λ p. f.orders)
+          (λ p. all_both OrderFits _ _ (all_take OrderFits (stop s.log index es) s.log f.orders)
+          (all_drop OrderFits (agreed (drop index s.log) es) es b));
     }
 
 -- and that hears an answer.
