@@ -1,2 +1,2 @@
-// Opening a journal, as definitions, and what is proved of it. Everything is in specs/; the code is the crate `opening`.
+// Opening a journal, as definitions, and what is proved of it. Everything is in specs/ and proofs/; the code is the crate `opening`.
 #![tactic(auto)]
