@@ -1,7 +1,7 @@
 #!/usr/bin/env python3
 """Brings the repository's own definitions, lemmas and fields to today's spelling, once, after port.py.
 
-usage: python3 tools/port_names.py [--dry]      at the top of the repository
+usage: python3 tools/port_names.py [--dry] [--names FILE]      at the top of the repository; FILE gets each old name with its new one
 
 Words are in snake case: `all-digits` becomes `all_digits`. A dash stays only in a lemma, between two names that it
 speaks of (`length-spelt`, `hex-append`). Types are in camel case. Functions of src/, exported names, strings, inputs and outputs are
@@ -177,8 +177,9 @@ def main():
         if new != text:
             open(path, "w", encoding="utf-8").write(new)
     print(f"{len(to)} names, {changed} files")
-    with open("/tmp/port-names.tsv", "w", encoding="utf-8") as f:
-        f.writelines(f"{a}\t{b}\n" for a, b in sorted(to.items()))
+    if "--names" in sys.argv:
+        with open(sys.argv[sys.argv.index("--names") + 1], "w", encoding="utf-8") as f:
+            f.writelines(f"{a}\t{b}\n" for a, b in sorted(to.items()))
 
 
 main()
