@@ -44,11 +44,15 @@ returns-then-kind-eq3 c =
 pub append_answer-requires : goal.append_answer-requires
 unfolding kind
 append_answer-requires c =
-    let fourth = last-kind c.args.s.now c.requires (λ k. c.if-kind-eq1.false (c.get_u8-kind.ensures ∙ k)) (λ k. c.if-kind-eq2.false (c.get_u8-kind.ensures ∙ k)) (λ k. c.if-kind-eq3.false (c.get_u8-kind.ensures ∙ k)) in
+    let fourth =
+    last-kind c.args.s.now c.requires (λ k. c.if-kind-eq1.false (c.get_u8-kind.ensures ∙ k))
+    (λ k. c.if-kind-eq2.false (c.get_u8-kind.ensures ∙ k)) (λ k. c.if-kind-eq3.false (c.get_u8-kind.ensures ∙ k)) in
     omega (arith, room_for 4 c.args.s.now c.requires fourth)
 
 pub returns : goal.returns
 unfolding message_in kind
 returns c =
     c.append_answer.ensures
-    ∙ ap fields_of (sym (kind_4 _ _ _ _ _ (λ k. c.if-kind-eq1.false (c.get_u8-kind.ensures ∙ k)) (λ k. c.if-kind-eq2.false (c.get_u8-kind.ensures ∙ k)) (λ k. c.if-kind-eq3.false (c.get_u8-kind.ensures ∙ k))))
+    ∙ ap fields_of
+    (sym (kind_4 _ _ _ _ _ (λ k. c.if-kind-eq1.false (c.get_u8-kind.ensures ∙ k))
+    (λ k. c.if-kind-eq2.false (c.get_u8-kind.ensures ∙ k)) (λ k. c.if-kind-eq3.false (c.get_u8-kind.ensures ∙ k))))

@@ -21,12 +21,16 @@ text_size-bytes-requires c =
 
 pub returns-then-room-bytes : goal.returns-then-room-bytes
 returns-then-room-bytes c =
-    written-short c.args.f c.args.room.now (sym c.is_frame.ensures ∙ c.if-not-is_frame.false) (omega (arith, c.text_size-bytes.ensures ∙ ap text_size c.size.ensures))
+    let measured = c.text_size-bytes.ensures ∙ ap text_size c.size.ensures in
+    written-short c.args.f c.args.room.now (sym c.is_frame.ensures ∙ c.if-not-is_frame.false) (omega (arith, measured))
 
 pub put_frame-requires : goal.put_frame-requires
 put_frame-requires c =
-    record { frame = sym c.is_frame.ensures ∙ c.if-not-is_frame.false; fits = omega (arith, text-bytes c.args.f (sym c.is_frame.ensures ∙ c.if-not-is_frame.false), c.text_size-bytes.ensures ∙ ap text_size c.size.ensures) }
+    let passed = sym c.is_frame.ensures ∙ c.if-not-is_frame.false in
+    let measured = c.text_size-bytes.ensures ∙ ap text_size c.size.ensures in
+    record { frame = passed; fits = omega (arith, text-bytes c.args.f passed, measured) }
 
 pub returns : goal.returns
 returns c =
-    written-whole c.args.f c.args.room.now (sym c.is_frame.ensures ∙ c.if-not-is_frame.false) (omega (arith, c.text_size-bytes.ensures ∙ ap text_size c.size.ensures)) (c.text_size-bytes.ensures ∙ ap text_size c.size.ensures) c.put_frame.ensures
+    let measured = c.text_size-bytes.ensures ∙ ap text_size c.size.ensures in
+    written-whole c.args.f c.args.room.now (sym c.is_frame.ensures ∙ c.if-not-is_frame.false) (omega (arith, measured)) measured c.put_frame.ensures

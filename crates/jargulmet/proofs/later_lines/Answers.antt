@@ -7,7 +7,8 @@ use Rattle.jargulmet.proofs.later_lines.Goals as goal
 pub overflow_add-at : goal.overflow_add-at
 overflow_add-at g c =
     let part = length-take (c.loop-turns.held - c.loop-turns.at) (drop c.loop-turns.at c.loop-turns.input) in
-    omega (arith, c.answer_all-block.ensures, part, length-drop c.loop-turns.at c.loop-turns.input, c.loop-turns.invariant.before, c.loop-turns.invariant.within, c.loop-turns.invariant.long, c.well_formed)
+    let kept = c.loop-turns.invariant in
+    omega (arith, c.answer_all-block.ensures, part, length-drop c.loop-turns.at c.loop-turns.input, kept.before, kept.within, kept.long, c.well_formed)
 
 pub more-held-requires : goal.more-held-requires
 more-held-requires g c =

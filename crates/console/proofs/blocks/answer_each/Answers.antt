@@ -21,7 +21,11 @@ shape_of-room-then-end-at c =
 
 pub returns-then-end-at : goal.returns-then-end-at
 returns-then-end-at c =
-    record { answers_lines = block_stops c.loop-at.invariant.reached c.line_end-end.ensures c.if-end-at.true; within = record { consumed = c.loop-at.invariant.reached.inside; printed = omega (arith, c.loop-at.invariant.reached.within, c.loop-at.invariant.reached.long) } }
+    let reached = c.loop-at.invariant.reached in
+    record {
+      answers_lines = block_stops reached c.line_end-end.ensures c.if-end-at.true;
+      within = record { consumed = reached.inside; printed = omega (arith, reached.within, reached.long) };
+    }
 
 pub slice_bounds-answer_known-end : goal.slice_bounds-answer_known-end
 slice_bounds-answer_known-end c =

@@ -11,9 +11,17 @@ use Rattle.events.proofs.prompt.decide.Goals as goal
 pub returns-then-n-eq-LEADER : goal.returns-then-n-eq-LEADER
 unfolding prompt messages_of Aimed
 returns-then-n-eq-LEADER c =
-    record { by_index = λ terms orders. rw c.step.ensures (plain-decides c.args.n [] terms orders Send.Appends c.requires tt (rw (eq-eqb _ _ c.if-n-eq-LEADER.true))); first_value = rw c.step.ensures }
+    record {
+      by_index = λ terms orders.
+          rw c.step.ensures (plain-decides c.args.n [] terms orders Send.Appends c.requires tt (rw (eq-eqb _ _ c.if-n-eq-LEADER.true)));
+      first_value = rw c.step.ensures;
+    }
 
 pub returns : goal.returns
 unfolding prompt
 returns c =
-    record { by_index = λ terms orders. rw c.refuse.ensures (refuse-decides c.args.n [] terms orders 3 c.requires (omega arith) (rw (ne_eqb _ _ c.if-n-eq-LEADER.false))); first_value = rw c.refuse.ensures }
+    record {
+      by_index = λ terms orders.
+          rw c.refuse.ensures (refuse-decides c.args.n [] terms orders 3 c.requires (omega arith) (rw (ne_eqb _ _ c.if-n-eq-LEADER.false)));
+      first_value = rw c.refuse.ensures;
+    }

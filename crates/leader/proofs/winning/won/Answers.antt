@@ -20,7 +20,11 @@ settled-requires c =
 pub returns-then-n-ge-LOG : goal.returns-then-n-ge-LOG
 unfolding settle
 returns-then-n-ge-LOG c =
-    record { decides = rw c.step.ensures (full_decides c.leading-first.ensures c.requires c.if-n-ge-LOG.true _ c.settled.ensures.orders_value c.settled.ensures.last_value _); term_value = rw c.step.ensures (ap (λ (s : State). s.term) c.settled.ensures.orders_value ∙ first-term c.leading-first.ensures c.requires) }
+    let settles = c.settled.ensures in
+    record {
+      decides = rw c.step.ensures (full_decides c.leading-first.ensures c.requires c.if-n-ge-LOG.true _ settles.orders_value settles.last_value _);
+      term_value = rw c.step.ensures (ap (λ (s : State). s.term) settles.orders_value ∙ first-term c.leading-first.ensures c.requires);
+    }
 
 pub adding-requires : goal.adding-requires
 adding-requires c =
@@ -32,4 +36,7 @@ adding-requires c =
 
 pub returns : goal.returns
 returns c =
-    record { decides = blank-decides c.leading-first.ensures c.requires c.if-n-ge-LOG.false (c.adding.ensures.by_index blank); term_value = c.adding.ensures.term_value ∙ first-term c.leading-first.ensures c.requires }
+    record {
+      decides = blank-decides c.leading-first.ensures c.requires c.if-n-ge-LOG.false (c.adding.ensures.by_index blank);
+      term_value = c.adding.ensures.term_value ∙ first-term c.leading-first.ensures c.requires;
+    }

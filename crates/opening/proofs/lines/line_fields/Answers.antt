@@ -33,4 +33,9 @@ get_u16-requires c =
 pub returns : goal.returns
 unfolding count_in
 returns c =
-    record { result_value = fields-line c.args.s.now _ _ _ _ _ _ c.get_u8.ensures c.get_u32.ensures c.get_u8-2.ensures c.get_u16.ensures c.get_u8-count.ensures c.entries-entries.ensures c.requires.few; count_le_entry_limit = omega (arith, c.get_u8-count.ensures, c.requires.few) }
+    record {
+      result_value =
+          fields-line c.args.s.now _ _ _ _ _ _ c.get_u8.ensures c.get_u32.ensures c.get_u8-2.ensures c.get_u16.ensures c.get_u8-count.ensures
+          c.entries-entries.ensures c.requires.few;
+      count_le_entry_limit = omega (arith, c.get_u8-count.ensures, c.requires.few);
+    }

@@ -22,13 +22,19 @@ replay_all-found-requires c =
 
 pub returns-then-found-ne0 : goal.returns-then-found-ne0
 returns-then-found-ne0 c =
-    let finds = open_finds c.args.me c.args.bytes.now c.line_end-end.ensures c.head_mask-mask.ensures c.if-mask-eq0.false c.fresh.ensures _ _ c.replay_all-found.new.terms c.replay_all-found.new.orders _ c.replay_all-found.ensures in
-    opens-broken c.args.me c.args.bytes.now c.args.terms.now c.args.orders.now c.replay_all-found.new.terms c.replay_all-found.new.orders _ finds c.if-found-ne0.true
+    let made = c.replay_all-found in
+    let finds =
+    open_finds c.args.me c.args.bytes.now c.line_end-end.ensures c.head_mask-mask.ensures c.if-mask-eq0.false c.fresh.ensures _ _
+    made.new.terms made.new.orders _ made.ensures in
+    opens-broken c.args.me c.args.bytes.now c.args.terms.now c.args.orders.now made.new.terms made.new.orders _ finds c.if-found-ne0.true
 
 pub hand_over-requires : goal.hand_over-requires
 hand_over-requires c =
-    let finds = open_finds c.args.me c.args.bytes.now c.line_end-end.ensures c.head_mask-mask.ensures c.if-mask-eq0.false c.fresh.ensures _ _ c.replay_all-found.new.terms c.replay_all-found.new.orders _ c.replay_all-found.ensures in
-    let fits = found-room c.args.me c.args.bytes.now c.args.terms.now c.args.orders.now c.replay_all-found.new.terms c.replay_all-found.new.orders _ finds c.if-found-ne0.false in
+    let made = c.replay_all-found in
+    let finds =
+    open_finds c.args.me c.args.bytes.now c.line_end-end.ensures c.head_mask-mask.ensures c.if-mask-eq0.false c.fresh.ensures _ _
+    made.new.terms made.new.orders _ made.ensures in
+    let fits = found-room c.args.me c.args.bytes.now c.args.terms.now c.args.orders.now made.new.terms made.new.orders _ finds c.if-found-ne0.false in
     record {
       in_terms = omega (arith, fits, c.hand_over-arg-1.given.0.1);
       in_orders = omega (arith, fits, c.hand_over-arg-2-1.given.0.1);
@@ -38,6 +44,9 @@ hand_over-requires c =
 
 pub returns : goal.returns
 returns c =
-    let finds = open_finds c.args.me c.args.bytes.now c.line_end-end.ensures c.head_mask-mask.ensures c.if-mask-eq0.false c.fresh.ensures _ _ c.replay_all-found.new.terms c.replay_all-found.new.orders _ c.replay_all-found.ensures in
-    let found = opens-found c.args.me c.args.bytes.now c.args.terms.now c.args.orders.now c.replay_all-found.new.terms c.replay_all-found.new.orders _ finds c.if-found-ne0.false in
+    let made = c.replay_all-found in
+    let finds =
+    open_finds c.args.me c.args.bytes.now c.line_end-end.ensures c.head_mask-mask.ensures c.if-mask-eq0.false c.fresh.ensures _ _
+    made.new.terms made.new.orders _ made.ensures in
+    let found = opens-found c.args.me c.args.bytes.now c.args.terms.now c.args.orders.now made.new.terms made.new.orders _ finds c.if-found-ne0.false in
     found c.terms_made-2-1.given c.orders_made-2-1.given c.hand_over.ensures.terms_after c.hand_over.ensures.orders_after

@@ -5,5 +5,11 @@ use Rattle.printing.proofs.looking.put_first.Goals as goal
 
 pub returns : goal.returns
 returns c =
-    let all = first-put c.args.room.now c.args.bytes c.args.term c.args.vote c.args.last c.requires c.put_number-one.ensures.puts c.put_number-two.ensures.puts c.put_number-three.ensures.puts c.put_number.ensures.puts in
-    record { puts = all; upper_bound = omega (arith, c.put_number-one.ensures.upper_bound, c.put_number-two.ensures.upper_bound, c.put_number-three.ensures.upper_bound, c.put_number.ensures.upper_bound) }
+    let one = c.put_number-one.ensures in
+    let two = c.put_number-two.ensures in
+    let three = c.put_number-three.ensures in
+    let four = c.put_number.ensures in
+    record {
+      puts = first-put c.args.room.now c.args.bytes c.args.term c.args.vote c.args.last c.requires one.puts two.puts three.puts four.puts;
+      upper_bound = omega (arith, one.upper_bound, two.upper_bound, three.upper_bound, four.upper_bound);
+    }

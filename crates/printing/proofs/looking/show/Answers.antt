@@ -17,5 +17,10 @@ put_log-requires c =
 
 pub returns : goal.returns
 returns c =
-    let all = shown-put c.args.room.now c.args.bytes c.args.n c.args.terms.now c.args.orders.now c.requires.wide c.requires.fits c.put_first-first.ensures.puts c.put_first-first.ensures.upper_bound c.put_log.ensures in
-    record { puts = all; upper_bound = omega (arith, c.put_first-first.ensures.upper_bound, c.requires.fits) }
+    let first = c.put_first-first.ensures in
+    record {
+      puts =
+          shown-put c.args.room.now c.args.bytes c.args.n c.args.terms.now c.args.orders.now c.requires.wide c.requires.fits first.puts first.upper_bound
+          c.put_log.ensures;
+      upper_bound = omega (arith, first.upper_bound, c.requires.fits);
+    }

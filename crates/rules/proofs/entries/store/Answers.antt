@@ -24,16 +24,26 @@ loop-i-init c =
 pub loop-i-preserved : goal.loop-i-preserved
 unfolding terms_of orders_of
 loop-i-preserved c =
+    let stored = c.loop-i.invariant in
     record {
       least = omega arith;
       most = omega arith;
       terms_long = search rules;
       orders_long = search rules;
-      terms_hold = store_next (λ e. e.term) c.args.terms.now c.args.entries c.args.index c.args.first c.loop-i.i c.loop-i.invariant.least (omega arith) c.loop-i.invariant.terms_hold;
-      orders_hold = store_next (λ e. e.order) c.args.orders.now c.args.entries c.args.index c.args.first c.loop-i.i c.loop-i.invariant.least (omega arith) c.loop-i.invariant.orders_hold;
+      terms_hold =
+          store_next (λ e. e.term) c.args.terms.now c.args.entries c.args.index c.args.first c.loop-i.i stored.least (omega arith) stored.terms_hold;
+      orders_hold =
+          store_next (λ e. e.order) c.args.orders.now c.args.entries c.args.index c.args.first c.loop-i.i stored.least (omega arith) stored.orders_hold;
     }
 
 pub returns : goal.returns
 returns c =
     let all : c.loop-i.i ≡ c.args.count = omega arith in
-    let at = c.args.index + c.args.first in record { terms_after = c.loop-i.invariant.terms_hold ∙ ap (λ (k : ℕ). over c.args.terms.now at (terms_of (listed c.args.entries c.args.first (k - c.args.first)))) all; orders_after = c.loop-i.invariant.orders_hold ∙ ap (λ (k : ℕ). over c.args.orders.now at (orders_of (listed c.args.entries c.args.first (k - c.args.first)))) all }
+    let at = c.args.index + c.args.first in
+    let stored = c.loop-i.invariant in
+    record {
+      terms_after =
+          stored.terms_hold ∙ ap (λ (k : ℕ). over c.args.terms.now at (terms_of (listed c.args.entries c.args.first (k - c.args.first)))) all;
+      orders_after =
+          stored.orders_hold ∙ ap (λ (k : ℕ). over c.args.orders.now at (orders_of (listed c.args.entries c.args.first (k - c.args.first)))) all;
+    }

@@ -21,4 +21,9 @@ put_append-requires c =
 
 pub returns : goal.returns
 returns c =
-    let other = sym c.is_other.ensures ∙ c.if-not-is_other.false in record { value = rw (other, c.append_size.ensures.value); room_after = rw (other, texts-one, c.put_append.ensures) (over-rest c.args.room.now c.args.at _ (omega (arith, rw other at c.requires.fits.in_room))) }
+    let other = sym c.is_other.ensures ∙ c.if-not-is_other.false in
+    record {
+      value = rw (other, c.append_size.ensures.value);
+      room_after =
+          rw (other, texts-one, c.put_append.ensures) (over-rest c.args.room.now c.args.at _ (omega (arith, rw other at c.requires.fits.in_room)));
+    }

@@ -22,5 +22,7 @@ returns c =
     let told : number 1 (length es) ≡ number 1 c.args.count = ap (number 1) (length-entries_of c.args.terms.now c.args.orders.now c.args.index c.args.count) in
     let fixed = number 2 c.args.index ∷ number 4 c.args.prior ∷ number 2 c.args.commit ∷ number 1 c.args.count ∷ [] in
     put-line c.args.room.now m (omega (arith, whole, c.requires.in_room))
-    (rw told (put_more c.args.room.now 0 (start 3 c.args.from c.args.to c.args.term fixed) (entry_fields es) (omega (arith, whole, c.requires.in_room, long)) c.put_append_start.ensures c.put_logged.ensures))
+    (rw told
+    (put_more c.args.room.now 0 (start 3 c.args.from c.args.to c.args.term fixed) (entry_fields es) (omega (arith, whole, c.requires.in_room, long))
+    c.put_append_start.ensures c.put_logged.ensures))
     (c.put_end.ensures ∙ ap (λ (k : ℕ). over c.put_logged.new.room k (10 ∷ [])) (sym whole))

@@ -7,10 +7,10 @@ use Rattle.writing.proofs.journal_lines.put_line_start.Goals as goal
 
 pub returns : goal.returns
 returns c =
-    let head = number 1 1 ∷ number 1 16 ∷ [] in
     put_next c.args.room.now 0 (number 1 1 ∷ number 1 16 ∷ number 1 c.args.next.me ∷ number 4 c.args.next.term ∷ number 1 c.args.next.vote ∷ number 2 c.args.kept ∷ [])
     (number 1 c.args.count) (omega (arith, c.requires))
-    (put_next c.args.room.now 0 (number 1 1 ∷ number 1 16 ∷ number 1 c.args.next.me ∷ number 4 c.args.next.term ∷ number 1 c.args.next.vote ∷ []) (number 2 c.args.kept) (omega (arith, c.requires))
+    (put_next c.args.room.now 0 (number 1 1 ∷ number 1 16 ∷ number 1 c.args.next.me ∷ number 4 c.args.next.term ∷ number 1 c.args.next.vote ∷ [])
+    (number 2 c.args.kept) (omega (arith, c.requires))
     (put_next c.args.room.now 0 (number 1 1 ∷ number 1 16 ∷ number 1 c.args.next.me ∷ number 4 c.args.next.term ∷ []) (number 1 c.args.next.vote) (omega (arith, c.requires))
     (put_next c.args.room.now 0 (number 1 1 ∷ number 1 16 ∷ number 1 c.args.next.me ∷ []) (number 4 c.args.next.term) (omega (arith, c.requires))
     (put_next c.args.room.now 0 (number 1 1 ∷ number 1 16 ∷ []) (number 1 c.args.next.me) (omega (arith, c.requires))
