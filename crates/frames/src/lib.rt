@@ -3,9 +3,11 @@
 
 mod frame_rules;
 mod lengths;
+mod refusal;
 
 pub use frame_rules::{in_order, is_box, is_frame, obeys};
 pub use lengths::{size, text_size};
+pub use refusal::Refusal;
 
 // An entry of a log: the term it was made in and the order, its 8 bytes as one number, the first byte highest.
 #[derive(Clone, Copy)]
