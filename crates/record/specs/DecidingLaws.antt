@@ -1,10 +1,13 @@
 -- How a decision comes to stand for an outcome. Assumes nothing.
 use Rattle.std.specs.Prelude.{ℕ, ◌+◌, ◌-◌, ◌≤◌, ◌<◌, ◌≡◌}
-use Rattle.std.proofs.Common.{arith, sym, ap, ◌∙◌, subst, eq-eqb, ne_eqb}
+use Rattle.std.specs.Prelude.{Result, Err}
+use Rattle.std.proofs.Common.{arith, sym, ap, ◌∙◌, subst}
 use mathlib.Core.List.{List, [], ◌∷◌, ◌++◌, append-nil}
 use Rattle.frames.specs.declared.Entry.{Entry}
 use Rattle.frames.specs.Fields.{listed}
 use Rattle.frames.specs.Limits.{log_limit}
+use Rattle.frames.specs.declared.refusal.Refusal.{Refusal}
+use Rattle.frames.specs.Refusal.{number}
 use Rattle.record.specs.declared.Record.{Record}
 use Rattle.record.specs.declared.Send.{Send}
 use Rattle.record.specs.declared.Decision.{Decision}
@@ -18,18 +21,14 @@ use Rattle.raft.specs.Event.{Event, step}
 use Rattle.raft.proofs.EventLaws.{step-good}
 use Rattle.raft.specs.LentLaws.{length-entries_of}
 use Rattle.record.specs.Calls.{entries_of, with_entries, state_of, run, Ready}
-use Rattle.record.specs.Deciding.{messages_of, one_entry, after, decided, Aimed, Decides, Sound, Becomes}
+use Rattle.record.specs.Deciding.{messages_of, one_entry, after, decided, Aimed, Decides, DecidesOrRefuses, Sound, Becomes}
 use Rattle.record.specs.GoodLaws.{ready-last}
 
 -- ---- a step that leaves the log alone
 
--- The decision for it,
+-- The decision for it.
 abbrev pub plain : Record → Send → Decision
-plain next send = record { refusal = 0; next = next; kept = next.last; first = 0; count = 0; send = send }
-
--- and for a refusal.
-abbrev pub refusing : Record → ℕ → Decision
-refusing b number = record { refusal = number; next = b; kept = b.last; first = 0; count = 0; send = Send.Nothing }
+plain next send = record { next = next; kept = next.last; first = 0; count = 0; send = send }
 
 module _ (b : Record) (offered : List Entry) (terms orders : List ℕ) where
   -- nothing is added
@@ -59,21 +58,9 @@ module _ (b : Record) (offered : List Entry) (terms orders : List ℕ) where
         aimed = a;
       }
 
-  pub refuse-decides : (number : ℕ) {o : Outcome} → b.last ≤ log_limit → 1 ≤ number → refuse number ≡ o
-      → Decides b.last (refusing b number) offered terms orders o
-  unfolding decided Aimed
-  refuse-decides number l h e =
-      record {
-        comes = rw (ne_eqb number 0 (omega arith)) e;
-        low = omega arith;
-        part = omega arith;
-        few = omega arith;
-        there = omega arith;
-        sum = omega arith;
-        room = l;
-        told = same-told;
-        aimed = tt;
-      }
+  -- a refusal is the outcome that it is
+  pub refuse-decides : (r : Refusal) {o : Outcome} → refuse (number r) ≡ o → DecidesOrRefuses b.last (Err r) offered terms orders o
+  refuse-decides r e = e
 
 -- and so where the next record's log is as long
 pub changed-decides : (b next : Record) (offered : List Entry) (terms orders : List ℕ) (send : Send) {o : Outcome} → next.last ≡ b.last
@@ -123,9 +110,9 @@ module _ {n : Record} {d : Decision} {offered : List Entry} {terms orders : List
         orders_long = r.orders_long;
         last = ready-last r;
         decides = decides_as k (sym k.comes);
-        next_good = λ h. good-facts (after d offered terms orders)
+        next_good = good-facts (after d offered terms orders)
             (step-good e (state_of n terms orders) r.rules (after d offered terms orders)
-            (messages_of d.send (after d offered terms orders)) (sym k.comes ∙ rw (eq-eqb d.refusal 0 h)));
+            (messages_of d.send (after d offered terms orders)) (sym k.comes));
       }
 
   -- and what it leaves is what the step leaves.
@@ -153,7 +140,7 @@ becomes_ready {terms} {orders} k r g =
 pub order-decides : (b next : Record) (terms orders : List ℕ) (term order : ℕ) {o : Outcome} → b.last < log_limit → next.last ≡ b.last + 1
     → done (with_entries next (entries_of terms orders 0 b.last ++ (record { term = term; order = order } ∷ [])))
     (appends (with_entries next (entries_of terms orders 0 b.last ++ (record { term = term; order = order } ∷ [])))) ≡ o
-    → Decides b.last (record { refusal = 0; next = next; kept = b.last; first = 0; count = 1; send = Send.Appends }) (one_entry term order) terms orders o
+    → Decides b.last (record { next = next; kept = b.last; first = 0; count = 1; send = Send.Appends }) (one_entry term order) terms orders o
 unfolding decided messages_of Aimed one_entry listed
 order-decides b next terms orders term order l e g =
     record {

@@ -29,8 +29,7 @@ use Rattle.raft.specs.Receive.{sender, receiver, term_of, stale, current, delive
 use Rattle.raft.specs.Event.{Event, times_out, takes_order, is_prompted, receives, step}
 use Rattle.raft.specs.Exactly.{Exactly, Row, row, first, at_row, at_none}
 use Rattle.record.specs.declared.Record.{Record}
-use Rattle.record.specs.declared.Handed.{Handed}
-use Rattle.record.specs.Calls.{state_of, Called, untouched, fit, run, call, Begun, begun, handed}
+use Rattle.record.specs.Calls.{state_of, Called, untouched, fit, run, call, Begun, begun, handed, HandedTold}
 use Rattle.record.specs.Calls as calls
 use Rattle.record.specs.ExactlyWhen.{Asked, state, left_by, Answers, leads, astray, longer, overflows, of_own_term, cuts, names_past, checked, Table}
 use Rattle.record.specs.ExactlyWhen.{breaks_a_rule, not_one_frame, not_for_this_box, not_leader, client_blank, log_full, in_last_term, second_leader, would_cut, past_its_log, too_long}
@@ -437,7 +436,7 @@ hand_first : (a : Handing) → (handed a.box a.terms a.orders).refusal ≡ first
 unfolding handed first
 hand_first a = go (good (state_of a.box a.terms a.orders)) _ _ refl refl
   where
-    go : (g : Bool) (x y : Handed) → x.refusal ≡ 0 → y.refusal ≡ 12 → (cond g x y).refusal ≡ cond (not g) 12 0
+    go : (g : Bool) (x y : HandedTold) → x.refusal ≡ 0 → y.refusal ≡ 12 → (cond g x y).refusal ≡ cond (not g) 12 0
     go true x y p q = p
     go false x y p q = q
 
