@@ -4,8 +4,7 @@ ghost use Rattle.record.specs.Deciding.{one_entry, decided, Sound};
 
 use crate::bytes::{put_line, put_messages};
 use crate::measuring::measured;
-use crate::refusal::refused;
-use frames::Entry;
+use frames::{Entry, Refusal};
 use record::{Decision, Record, Step};
 
 // A step that may add some of the entries that were offered: they are stored once the step is sure.
@@ -17,7 +16,7 @@ pub fn finish_adding(
     orders: &mut [u64],
     journal: &mut [u8],
     messages: &mut [u8],
-) -> Step
+) -> Result<Step<Record>, Refusal>
     requires { Sound n d offered terms.old orders.old }
     ensures { Runs (decided d offered terms.old orders.old) n
         terms.old orders.old journal.old messages.old result
@@ -25,10 +24,7 @@ pub fn finish_adding(
 {
     let next = d.next;
     let send = d.send;
-    let sizes = measured(n, d, journal.len(), messages.len());
-    if sizes.refusal != 0 {
-        return refused(n, sizes.refusal);
-    }
+    let sizes = measured(n, d, journal.len(), messages.len())?;
     let first = d.first as usize;
     rules::store(
         terms,
@@ -40,12 +36,11 @@ pub fn finish_adding(
     );
     put_line(journal, sizes.line, next, d.kept, &terms[..], &orders[..]);
     put_messages(messages, send, next, &terms[..], &orders[..]);
-    Step {
-        refusal: 0,
-        state: next,
+    Ok(Step {
+        next,
         line: sizes.line,
         sent: sizes.sent,
-    }
+    })
 }
 
 // A step that may add one entry: a client's order, or a new leader's blank.
@@ -58,7 +53,7 @@ pub fn finish_one(
     orders: &mut [u64],
     journal: &mut [u8],
     messages: &mut [u8],
-) -> Step
+) -> Result<Step<Record>, Refusal>
     requires { Sound n d (one_entry term order) terms.old orders.old }
     ensures { Runs (decided d (one_entry term order) terms.old orders.old) n
         terms.old orders.old journal.old messages.old result
