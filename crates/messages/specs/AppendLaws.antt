@@ -126,7 +126,7 @@ module _ (b : Record) (terms orders : List ℕ) (from index commit : ℕ) (all :
       pub accept-adds : (next : Record) (end : ℕ) → end ≡ index + count → Offered b index count terms → b.commit ≤ place → next.last ≡ end
           → ((log : List Entry) → with_entries next log ≡ with_commit k (with_log log (state_of f terms orders)))
           → Decides b.last
-          (record { refusal = 0; next = next; kept = place; first = place - index; count = count; send = Send.AppendAnswer from 1 end })
+          (record { next = next; kept = place; first = place - index; count = count; send = Send.AppendAnswer from 1 end })
           all terms orders (accept s from index commit es)
       unfolding decided messages_of Aimed cuts_committed joining
       accept-adds next end e o c l with-log-of =

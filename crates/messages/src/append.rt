@@ -3,11 +3,11 @@ ghost use Rattle.std.specs.Prelude.{List, ℕ};
 ghost use Rattle.frames.specs.Fields.{listed};
 ghost use Rattle.raft.specs.Append.{accept, on_append};
 ghost use Rattle.record.specs.Calls.{state_of};
-ghost use Rattle.record.specs.Deciding.{Decides};
+ghost use Rattle.record.specs.Deciding.{DecidesOrRefuses};
 ghost use Rattle.messages.specs.Required.{Offered, Joined};
 
-use changes::{following, refuse, step};
-use frames::Entry;
+use changes::{following, step};
+use frames::{Entry, Refusal};
 use record::{Decision, Record, Send};
 
 // The search's place decides: all is held already, a cut at or below commit, or entries that are added.
@@ -19,9 +19,9 @@ fn accept(
     entries: [Entry; Record::ENTRIES],
     count: u8,
     terms: &[u32],
-) -> Decision
+) -> Result<Decision, Refusal>
     requires { Joined t index count terms.now }
-    ensures { (orders : List ℕ) → Decides t.last result entries terms.now orders
+    ensures { (orders : List ℕ) → DecidesOrRefuses t.last result entries terms.now orders
         (accept (state_of t terms.now orders) from index commit (listed entries 0 count)) }
 {
     let end = index + count as u16;
@@ -40,20 +40,19 @@ fn accept(
         index: end,
     };
     if place == end as usize {
-        return step(next, yes);
+        return Ok(step(next, yes));
     }
     if rules::cuts_committed(place, t.commit) {
-        return refuse(t, 7);
+        return Err(Refusal::CutsCommitted);
     }
     next.last = end;
-    Decision {
-        refusal: 0,
+    Ok(Decision {
         next,
         kept: place as u16,
         first: (place - index as usize) as u8,
         count,
         send: yes,
-    }
+    })
 }
 
 // 6 at a leader; "If previous index is not 0 and the log lacks an entry there with that term: no."
@@ -66,13 +65,13 @@ pub fn append(
     entries: [Entry; Record::ENTRIES],
     count: u8,
     terms: &[u32],
-) -> Decision
+) -> Result<Decision, Refusal>
     requires { Offered t index count terms.now }
-    ensures { (orders : List ℕ) → Decides t.last result entries terms.now orders
+    ensures { (orders : List ℕ) → DecidesOrRefuses t.last result entries terms.now orders
         (on_append (state_of t terms.now orders) from index prior commit (listed entries 0 count)) }
 {
     if t.role == Record::LEADER {
-        return refuse(t, 6);
+        return Err(Refusal::SecondLeader);
     }
     if rules::lacks(terms, t.last, index, prior) {
         let no = Send::AppendAnswer {
@@ -80,7 +79,7 @@ pub fn append(
             reply: 0,
             index: 0,
         };
-        return step(following(t), no);
+        return Ok(step(following(t), no));
     }
     accept(t, from, index, commit, entries, count, terms)
 }

@@ -1,6 +1,6 @@
 -- How a decision comes to stand for an outcome. Assumes nothing.
 use Rattle.std.specs.Prelude.{ℕ, ◌+◌, ◌-◌, ◌≤◌, ◌<◌, ◌≡◌}
-use Rattle.std.specs.Prelude.{Result, Err, IsErrAnd}
+use Rattle.std.specs.Prelude.{Result, Ok, Err, IsErrAnd}
 use Rattle.std.proofs.lemmas.Result.{err_from_is_err_and}
 use Rattle.std.proofs.Common.{arith, sym, ap, ◌∙◌, subst}
 use mathlib.Core.List.{List, [], ◌∷◌, ◌++◌, append-nil}
@@ -93,6 +93,12 @@ pub decides_at : {last last' : ℕ} {d : Decision} {offered : List Entry} {terms
     → Decides last d offered terms orders o → Decides last' d offered terms orders o'
 decides_at {last} {last'} {d} {offered} {terms} {orders} {o} {o'} l e k =
     subst (λ (n : ℕ). Decides n d offered terms orders o') l (decides_as k e)
+
+-- also where it may be refused,
+pub answers_at : {last last' : ℕ} (r : Result Decision Refusal) (offered : List Entry) (terms orders : List ℕ) {o o' : Outcome} → last ≡ last' → o ≡ o'
+    → DecidesOrRefuses last r offered terms orders o → DecidesOrRefuses last' r offered terms orders o'
+answers_at (Ok d) offered terms orders l e k = decides_at l e k
+answers_at (Err r) offered terms orders l e k = k ∙ e
 
 -- or the term of the entry that is offered is the same.
 pub decides-term : (order : ℕ) {last term term' : ℕ} {d : Decision} {terms orders : List ℕ} {o : Outcome} → term ≡ term'
