@@ -50,21 +50,17 @@ fn follows(last: u32, term: u32, next: u32) -> bool
     (last <= term) & (1 <= next) & (last <= next)
 }
 
-// The entry rule over the first count entries: "previous term and the entry terms never fall, entry terms at least 1, none of them, previous
-// term included, above term". (An inside call: the journal's lines have the same rule.)
-pub fn in_order(entries: [Entry; Fields::ENTRIES], count: usize, previous: u32, term: u32) -> bool
-    requires { count ≤ entry_limit }
-    ensures { result ≡ in_order previous term (listed entries 0 count) }
+// The entry rule: "previous term and the entry terms never fall, entry terms at least 1, none of them, previous term included, above term".
+// (An inside call: the journal's lines have the same rule.)
+pub fn in_order(entries: &[Entry], previous: u32, term: u32) -> bool
+    ensures { result ≡ in_order previous term entries.now }
 {
     let mut last = previous;
-    let mut i = 0;
-    while i < count {
-        let e = entries[i];
+    for e in entries {
         if !follows(last, term, e.term) {
             return false;
         }
         last = e.term;
-        i += 1;
     }
     last <= term
 }
@@ -92,14 +88,13 @@ fn is_append(f: Fields) -> bool
     ensures { result ≡ obeys (append f.from f.to f.term f.index f.prior f.commit (listed f.entries 0 f.count)) }
 {
     let count = f.count;
-    let entries = f.entries;
     is_start(f.from, f.to, f.term)
         & is_index(f.index)
         & is_pair(f.index, f.prior)
         & is_index(f.commit)
         & (count as usize <= Fields::ENTRIES)
         & (f.index as u32 + count as u32 <= Fields::LOG as u32)
-        & in_order(entries, count as usize, f.prior, f.term)
+        & in_order(&f.entries[..count as usize], f.prior, f.term)
 }
 
 // "Kind 4: a no names index 0."
