@@ -108,21 +108,17 @@ fn is_append_answer(f: Fields) -> bool
 }
 
 // The rules of the fields' kind. (An inside call, of the reader: it knows that the entries are at most four.)
+#[tactic(auto, unfolding(crate::specs::Message::by_kind))]
 pub fn obeys(f: Fields) -> bool
     requires { f.count ≤ entry_limit }
     ensures { result ≡ obeys (message_of f) }
 {
-    let kind = f.kind;
-    if kind == 1 {
-        return is_vote_request(f);
+    match f.kind {
+        Fields::VOTE_REQUEST => is_vote_request(f),
+        Fields::VOTE_ANSWER => is_vote_answer(f),
+        Fields::APPEND => is_append(f),
+        _ => is_append_answer(f),
     }
-    if kind == 2 {
-        return is_vote_answer(f);
-    }
-    if kind == 3 {
-        return is_append(f);
-    }
-    is_append_answer(f)
 }
 
 // An entry past the count is 0.
@@ -144,34 +140,23 @@ fn entries_unused(f: Fields) -> bool
 }
 
 // A field that the kind does not have is 0.
+#[tactic(auto, unfolding(crate::specs::Message::by_kind))]
 fn fields_unused(f: Fields) -> bool
     ensures { result ≡ fields_unused f }
 {
-    let kind = f.kind;
-    if kind == 1 {
-        return (f.commit == 0) & (f.reply == 0) & (f.count == 0);
+    match f.kind {
+        Fields::VOTE_REQUEST => (f.commit == 0) & (f.reply == 0) & (f.count == 0),
+        Fields::VOTE_ANSWER => (f.index == 0) & (f.prior == 0) & (f.commit == 0) & (f.count == 0),
+        Fields::APPEND => f.reply == 0,
+        _ => (f.prior == 0) & (f.commit == 0) & (f.count == 0),
     }
-    if kind == 2 {
-        return (f.index == 0) & (f.prior == 0) & (f.commit == 0) & (f.count == 0);
-    }
-    if kind == 3 {
-        return f.reply == 0;
-    }
-    (f.prior == 0) & (f.commit == 0) & (f.count == 0)
 }
 
 // The fields are one frame: at most four entries, a kind of the four, the rules of the kind, and nothing that the kind does not have.
+#[tactic(auto, unfolding(crate::specs::Fields::one_frame))]
 pub fn is_frame(f: Fields) -> bool
     ensures { result ≡ one_frame f }
 {
-    let count = f.count;
-    if Fields::ENTRIES < count as usize {
-        return false;
-    }
-    (count as usize <= Fields::ENTRIES)
-        & (1 <= f.kind)
-        & (f.kind <= 4)
-        & obeys(f)
-        & fields_unused(f)
-        & entries_unused(f)
+    (f.count as usize <= Fields::ENTRIES)
+        && (1 <= f.kind) & (f.kind <= 4) & obeys(f) & fields_unused(f) & entries_unused(f)
 }
