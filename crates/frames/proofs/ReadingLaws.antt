@@ -1,5 +1,5 @@
 -- What is proved of reading, for the reader's proofs and for 'one spelling'. Assumes nothing.
-use Rattle.std.specs.Prelude.{ℕ, zero, suc, ◌+◌, ◌*◌, ◌≤◌, ◌<◌, ◌≡◌, refl, Bool, true, false, cond, ◌&&◌, List, [], ◌∷◌, eqb, leb, length, get_or, take}
+use Rattle.std.specs.Prelude.{ℕ, zero, suc, ◌+◌, ◌*◌, ◌≤◌, ◌<◌, ◌≡◌, refl, Bool, true, false, cond, ◌&&◌, List, [], ◌∷◌, eqb, leb, length, get_or, take, Ok}
 use Rattle.std.proofs.Common.{add-zero, mul-zero, arith, sym, ap, ◌∙◌, true≢false, eqb-true, leb-true, ne_eqb, eq-eqb, le-leb}
 use Rattle.digits.specs.Digits.{field, run, all_digits}
 use Rattle.digits.specs.Laws.{run_ends}
@@ -237,7 +237,7 @@ module _ (s : List ℕ) (f : Fields) (h : readable s ≡ true) (e : f ≡ fields
   read-few = rw (e, count-told) (few-read s h)
 
   -- the fields that the form tells, where the rules hold, are the frame's
-  pub read-frame : obeys (message_of f) ≡ true → record { refusal = 0; fields = f } ≡ answer (reading s)
+  pub read-frame : obeys (message_of f) ≡ true → Ok f ≡ answer (reading s)
   unfolding answer reading is_frame readable
   read-frame o = rw (and_left (shaped s) _ h, rw tells at o, e)
 

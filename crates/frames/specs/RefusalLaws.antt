@@ -1,5 +1,5 @@
 -- A refusal's number tells it: no two have one, and none has 0. So a promise of the number is a promise of the refusal.
-use Rattle.std.specs.Prelude.{ℕ, ◌≡◌, Bool, false, cond, eqb, Result, Ok, Err}
+use Rattle.std.specs.Prelude.{ℕ, ◌≡◌, false, cond, eqb, Result, Ok, Err}
 use Rattle.std.proofs.Common.{arith, refl, sym, ap, ◌∙◌}
 use Rattle.frames.specs.declared.refusal.Refusal.{Refusal}
 use Rattle.frames.specs.declared.refusal.Refusal.TheVariants.{NotAFrame, NotForThisBox, NotLeader, LogFull, NoRoom, SecondLeader, CutsCommitted, PastLog, LastTerm, BadLine, NoHead, BadRecord, BlankOrder}

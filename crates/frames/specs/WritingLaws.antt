@@ -1,5 +1,5 @@
 -- What is proved of writing: fields one behind the other, the line feed, and how long a frame is. Assumes nothing.
-use Rattle.std.specs.Prelude.{ℕ, zero, suc, ◌+◌, ◌*◌, ◌≤◌, ◌<◌, ◌≡◌, true, false, ◌&&◌, List, [], ◌∷◌, ◌++◌, leb, length, get_or, set}
+use Rattle.std.specs.Prelude.{ℕ, zero, suc, ◌+◌, ◌*◌, ◌≤◌, ◌<◌, ◌≡◌, true, false, ◌&&◌, List, [], ◌∷◌, ◌++◌, leb, length, get_or, set, Ok, Err}
 use Rattle.std.proofs.Common.{add-zero, zero-add, add-suc, suc-add, add-one, arith, sym, ap, ◌∙◌, append_assoc, append-nil, length-append, take-append-drop}
 use Rattle.std.proofs.Math.Path.{refl}
 use Rattle.std.proofs.lemmas.List.Edits.{sets-eq}
@@ -10,12 +10,13 @@ use Rattle.digits.specs.Room.{over}
 use Rattle.digits.specs.RoomLaws.{over-over}
 use Rattle.frames.specs.declared.Entry.{Entry}
 use Rattle.frames.specs.declared.Fields.{Fields}
+use Rattle.frames.specs.declared.refusal.Refusal.TheVariants.{NotAFrame, NoRoom}
 use Rattle.frames.specs.Limits.{entry_limit}
 use Rattle.frames.specs.Message.{Message, vote_request, vote_answer, append, append_answer, by_kind, Field, width, value, entry_fields, table, spell, text}
 use Rattle.frames.specs.Rules.{obeys}
 use Rattle.frames.specs.Reading.{size, text_size}
 use Rattle.frames.specs.Fields.{no_entry, listed, message_of, fields_unused, entries_unused, one_frame}
-use Rattle.frames.specs.Writing.{written}
+use Rattle.frames.specs.Writing.{Wrote, written}
 use Rattle.frames.specs.Clauses.{four, zeros}
 use Rattle.frames.specs.Laws.{at-kind, kind_of, count_of, length-listed}
 
@@ -180,22 +181,20 @@ module _ (f : Fields) (h : one_frame f ≡ true) where
 
 -- ---- the writer's answers
 
--- fields that are not one frame: 1
-pub written-not : (f : Fields) (d : List ℕ) → one_frame f ≡ false
-    → record { answer = record { refusal = 1; bytes = 0 }; room = d } ≡ written f d
+-- fields that are not one frame
+pub written-not : (f : Fields) (d : List ℕ) → one_frame f ≡ false → ◌≡◌ {A = Wrote} (record { answer = Err NotAFrame; room = d }) (written f d)
 unfolding written
 written-not f d h = rw h
 
 module _ (f : Fields) (d : List ℕ) (h : one_frame f ≡ true) where
-  -- room that is too short: 5
-  pub written-short : length d < text_size (size f.kind f.count)
-      → record { answer = record { refusal = 5; bytes = 0 }; room = d } ≡ written f d
+  -- room that is too short
+  pub written-short : length d < text_size (size f.kind f.count) → ◌≡◌ {A = Wrote} (record { answer = Err NoRoom; room = d }) (written f d)
   unfolding written
   written-short l = rw (h, lt-leb (length (text (message_of f))) (length d) (omega (arith, text-bytes f h)))
 
   -- otherwise the frame
   pub written-whole : {n : ℕ} {d₁ : List ℕ} → text_size (size f.kind f.count) ≤ length d → n ≡ text_size (size f.kind f.count)
-      → d₁ ≡ over d 0 (text (message_of f)) → record { answer = record { refusal = 0; bytes = n }; room = d₁ } ≡ written f d
+      → d₁ ≡ over d 0 (text (message_of f)) → ◌≡◌ {A = Wrote} (record { answer = Ok n; room = d₁ }) (written f d)
   unfolding written
   written-whole l e w =
       rw (h, le-leb (length (text (message_of f))) (length d) (omega (arith, text-bytes f h)), e, w, text-bytes f h)
