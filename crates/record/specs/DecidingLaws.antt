@@ -100,6 +100,11 @@ pub answers_at : {last last' : ℕ} (r : Result Decision Refusal) (offered : Lis
 answers_at (Ok d) offered terms orders l e k = decides_at l e k
 answers_at (Err r) offered terms orders l e k = k ∙ e
 
+pub answers_as : (last : ℕ) (r : Result Decision Refusal) (offered : List Entry) (terms orders : List ℕ) {o o' : Outcome}
+    → DecidesOrRefuses last r offered terms orders o → o ≡ o' → DecidesOrRefuses last r offered terms orders o'
+answers_as last (Ok d) offered terms orders k e = decides_as k e
+answers_as last (Err r) offered terms orders k e = k ∙ e
+
 -- or the term of the entry that is offered is the same.
 pub decides-term : (order : ℕ) {last term term' : ℕ} {d : Decision} {terms orders : List ℕ} {o : Outcome} → term ≡ term'
     → Decides last d (one_entry term order) terms orders o → Decides last d (one_entry term' order) terms orders o

@@ -3,6 +3,7 @@
 use Rattle.std.specs.Prelude.{ℕ, ◌≤◌, ◌≡◌, refl, Bool, true, false, not, cond, ◌&&◌, ◌||◌, List, [], ◌∷◌, eqb, ltb, leb, length}
 use Rattle.std.proofs.Common.{arith, sym, ap, ◌∙◌, ltb-true, ltb-false, leb-true, leb-false, lt-ltb, le-ltb, le-leb, eq-eqb, ne_eqb}
 use Rattle.std.proofs.lemmas.Bool.{lt-leb}
+use Rattle.frames.specs.Refusal.{code}
 use Rattle.frames.specs.declared.Entry.{Entry}
 use Rattle.frames.specs.Limits.{log_limit}
 use Rattle.frames.specs.Message.{Message, vote_request, vote_answer, append, append_answer, text}
@@ -410,14 +411,14 @@ start_exactly_when a =
       row_12 = carried 12 e (at_row 12 bad_box_or_mask [] (row 5 head_too_long ∷ []) refl refl refl a);
     }
 
-write_first : (a : Writing) → (written a.fields a.room).answer.refusal ≡ first write_checked a
+write_first : (a : Writing) → code (written a.fields a.room).answer ≡ first write_checked a
 unfolding written first
 write_first a =
     rw (more_not (length (text (message_of a.fields))) (length a.room))
     (go (one_frame a.fields) (leb (length (text (message_of a.fields))) (length a.room)) _ _ _ refl refl refl)
   where
-    go : (m l : Bool) (x y z : Wrote) → x.answer.refusal ≡ 0 → y.answer.refusal ≡ 5 → z.answer.refusal ≡ 1
-        → (cond m (cond l x y) z).answer.refusal ≡ cond (not m) 1 (cond (not l) 5 0)
+    go : (m l : Bool) (x y z : Wrote) → code x.answer ≡ 0 → code y.answer ≡ 5 → code z.answer ≡ 1
+        → code (cond m (cond l x y) z).answer ≡ cond (not m) 1 (cond (not l) 5 0)
     go true true x y z p q r = p
     go true false x y z p q r = q
     go false l x y z p q r = r
