@@ -15,16 +15,13 @@ listed-slice es a b h = go a (b - a) (λ l. omega arith)
     go at zero within = refl
     go at (suc n) within = rw (drop-cons es at no_entry (omega (arith, within)), go (suc at) n (λ l. omega (arith, within)))
 
--- the log is told by its own terms alone: whatever stands behind them in the array
+-- the log is told by its own terms alone, whatever stands behind them
 pub entries-own : (terms orders : List ℕ) (last : ℕ) → last ≤ length terms
-    → entries_of (slice_range terms 0 last) orders 0 (length (slice_range terms 0 last)) ≡ entries_of terms orders 0 last
+    → entries_of (take last terms) orders 0 (length (take last terms)) ≡ entries_of terms orders 0 last
 unfolding entries_of
 entries-own terms orders last h =
-    ap (entries_of (slice_range terms 0 last) orders 0) long ∙ go 0 last (omega arith)
+    ap (entries_of (take last terms) orders 0) (length-take-le last terms h) ∙ go 0 last (omega arith)
   where
-    long : length (slice_range terms 0 last) ≡ last
-    long = length-take-le (last - 0) terms (omega arith) ∙ omega arith
-
-    go : (at n : ℕ) → at + n ≤ last → entries_of (slice_range terms 0 last) orders at n ≡ entries_of terms orders at n
+    go : (at n : ℕ) → at + n ≤ last → entries_of (take last terms) orders at n ≡ entries_of terms orders at n
     go at zero within = refl
-    go at (suc n) within = rw (get_or-take (last - 0) terms at 0 (omega arith), go (suc at) n (omega arith))
+    go at (suc n) within = rw (get_or-take last terms at 0 (omega arith), go (suc at) n (omega arith))
