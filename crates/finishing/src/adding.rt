@@ -11,29 +11,22 @@ use record::{Decision, Record, Step};
 pub fn finish_adding(
     n: Record,
     d: Decision,
-    offered: [Entry; Record::ENTRIES],
+    offered: &[Entry],
     terms: &mut [u32],
     orders: &mut [u64],
     journal: &mut [u8],
     messages: &mut [u8],
 ) -> Result<Step<Record>, Refusal>
-    requires { Sound n d offered terms.old orders.old }
-    ensures { Runs (decided d offered terms.old orders.old) n
+    requires { Sound n d offered.now terms.old orders.old }
+    ensures { Runs (decided d offered.now terms.old orders.old) n
         terms.old orders.old journal.old messages.old result
         terms.new orders.new journal.new messages.new }
 {
     let next = d.next;
     let send = d.send;
     let sizes = measured(n, d, journal.len(), messages.len())?;
-    let first = d.first as usize;
-    rules::store(
-        terms,
-        orders,
-        d.kept as usize - first,
-        offered,
-        first,
-        d.count as usize,
-    );
+    let added = &offered[d.first as usize..d.count as usize];
+    rules::store(terms, orders, d.kept as usize, added);
     put_line(journal, sizes.line, next, d.kept, &terms[..], &orders[..]);
     put_messages(messages, send, next, &terms[..], &orders[..]);
     Ok(Step {
@@ -59,15 +52,6 @@ pub fn finish_one(
         terms.old orders.old journal.old messages.old result
         terms.new orders.new journal.new messages.new }
 {
-    let none = Entry { term: 0, order: 0 };
     let new = Entry { term, order };
-    finish_adding(
-        n,
-        d,
-        [new, none, none, none],
-        terms,
-        orders,
-        journal,
-        messages,
-    )
+    finish_adding(n, d, &[new], terms, orders, journal, messages)
 }

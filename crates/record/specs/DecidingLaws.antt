@@ -54,6 +54,7 @@ module _ (b : Record) (offered : List Entry) (terms orders : List ℕ) where
         part = omega arith;
         few = omega arith;
         there = omega arith;
+        held = omega arith;
         sum = omega arith;
         room = l;
         told = same-told;
@@ -82,6 +83,7 @@ decides_as k e =
       part = k.part;
       few = k.few;
       there = k.there;
+      held = k.held;
       sum = k.sum;
       room = k.room;
       told = k.told;
@@ -173,6 +175,7 @@ order-decides b next terms orders term order l e g =
       part = omega arith;
       few = omega arith;
       there = omega arith;
+      held = omega arith;
       sum = e;
       room = omega arith;
       told = kept_more (entries_of terms orders 0 b.last) (record { term = term; order = order } ∷ []) ∙ length-entries_of terms orders 0 b.last;
