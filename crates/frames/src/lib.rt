@@ -33,7 +33,26 @@ pub struct Fields {
     pub entries: [Entry; Fields::ENTRIES],
 }
 
+impl Entry {
+    // What stands where there is no entry.
+    pub const NONE: Entry = Entry { term: 0, order: 0 };
+}
+
 impl Fields {
+    // What each kind's own fields are put into.
+    pub const NONE: Fields = Fields {
+        kind: 0,
+        from: 0,
+        to: 0,
+        term: 0,
+        index: 0,
+        prior: 0,
+        commit: 0,
+        reply: 0,
+        count: 0,
+        entries: [Entry::NONE; Fields::ENTRIES],
+    };
+
     // 01's limits: boxes 1 to 7, a log of 256 entries, 4 entries a frame.
     pub const BOXES: u8 = 7;
 
