@@ -45,10 +45,8 @@ fn current(t: Record, f: Fields, terms: &[u32], orders: &[u64]) -> Result<Decisi
         Fields::VOTE_REQUEST => Ok(vote_request(t, f.from, f.index, f.prior, terms)),
         Fields::VOTE_ANSWER => Ok(vote_answer(t, f.from, f.reply, terms, orders)),
         Fields::APPEND => {
-            let entries = f.entries;
-            append(
-                t, f.from, f.index, f.prior, f.commit, entries, f.count, terms,
-            )
+            let entries = &f.entries[..f.count as usize];
+            append(t, f.from, f.index, f.prior, f.commit, entries, terms)
         }
         _ => append_answer(t, f.from, f.reply, f.index, terms, orders),
     }
