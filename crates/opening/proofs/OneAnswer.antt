@@ -2,7 +2,8 @@
 -- the same answer and leave the same in the lent log. Stated over the contracts themselves: `Pre` and `Post` are what a function's `requires` and `ensures`
 -- say; r is an answer, and s the parameters as the call leaves them, `s.0` the first, `s.1.0` the second, and so on. Assumes nothing.
 use mathlib.Core.Path.{◌≡◌, sym, ap, ◌∙◌}
-use Rattle.opening.specs.Calls.{Opening, Replaying, Blocks}
+use Rattle.opening.specs.Calls.{Opening, Replaying, Blocks, none}
+use Rattle.opening.specs.ToldLaws.{told_open-one, told_replay-one, told_block-one}
 use Rattle.opening.proofs.whole.open.Reads as opens
 use Rattle.opening.proofs.whole.replay.Reads as replay
 use Rattle.opening.proofs.blocks.replay_head.Reads as replay-head
@@ -17,7 +18,7 @@ pub open_one_answer : (κs : _) (a : _) (r r' : _) (s s' : _) → opens.Post κs
     → (r ≡ r') × (s.1.1.0.now ≡ s'.1.1.0.now) × (s.1.1.1.0.now ≡ s'.1.1.1.0.now)
 open_one_answer κs a r r' s s' p q =
     let same = p ∙ sym q in
-    (ap (λ (x : Opening). x.answer) same, ap (λ (x : Opening). x.terms) same, ap (λ (x : Opening). x.orders) same)
+    (told_open-one r r' (ap (λ (x : Opening). x.answer) same), ap (λ (x : Opening). x.terms) same, ap (λ (x : Opening). x.orders) same)
 
 -- ---- `replay`: the same
 
@@ -28,7 +29,7 @@ pub replay_one_answer : (κs : _) (a : _) (r r' : _) (s s' : _) → replay.Post 
     → (r ≡ r') × (s.1.1.0.now ≡ s'.1.1.0.now) × (s.1.1.1.0.now ≡ s'.1.1.1.0.now)
 replay_one_answer κs a r r' s s' p q =
     let same = p ∙ sym q in
-    (ap (λ (x : Replaying). x.answer) same, ap (λ (x : Replaying). x.terms) same, ap (λ (x : Replaying). x.orders) same)
+    (told_replay-one a.0 r r' (ap (λ (x : Replaying). x.answer) same), ap (λ (x : Replaying). x.terms) same, ap (λ (x : Replaying). x.orders) same)
 
 -- ---- `replay_head`: the answer
 
@@ -36,7 +37,7 @@ pub replay_head_requires_nothing : (κs : _) (a : _) → replay-head.Pre κs a
 replay_head_requires_nothing κs a = tt
 
 pub replay_head_one_answer : (κs : _) (a : _) (r r' : _) (s s' : _) → replay-head.Post κs a r s → replay-head.Post κs a r' s' → r ≡ r'
-replay_head_one_answer κs a r r' s s' p q = p ∙ sym q
+replay_head_one_answer κs a r r' s s' p q = told_replay-one none r r' (p ∙ sym q)
 
 -- ---- `replay_lines`: the answer, and the log's terms and orders
 
@@ -47,4 +48,4 @@ pub replay_lines_one_answer : (κs : _) (a : _) (r r' : _) (s s' : _) → replay
     → (r ≡ r') × (s.1.1.0.now ≡ s'.1.1.0.now) × (s.1.1.1.0.now ≡ s'.1.1.1.0.now)
 replay_lines_one_answer κs a r r' s s' p q =
     let same = p.leaves ∙ sym q.leaves in
-    (ap (λ (x : Blocks). x.answer) same, ap (λ (x : Blocks). x.terms) same, ap (λ (x : Blocks). x.orders) same)
+    (told_block-one r r' (ap (λ (x : Blocks). x.answer) same), ap (λ (x : Blocks). x.terms) same, ap (λ (x : Blocks). x.orders) same)

@@ -1,11 +1,13 @@
 -- Block by block: a head alone, and the lines of a block one after the other. Assumes nothing.
-use Rattle.std.specs.Prelude.{ℕ, ◌+◌, ◌-◌, ◌≤◌, Bool, cond, List, take, drop}
+use Rattle.std.specs.Prelude.{ℕ, ◌+◌, ◌-◌, ◌≤◌, Bool, List, take, drop, Ok, Err}
 use Rattle.std.proofs.Common.{arith, ◌∙◌}
 use Rattle.std.proofs.Math.Path.{◌≡◌, refl, sym}
 use Rattle.std.proofs.Math.Bool.{true, false}
 use Rattle.std.proofs.Math.ListN.{length, length-take}
-use borrow.Author.Tests.{eq-eqb, ne_eqb}
 use Rattle.frames.specs.Limits.{log_limit}
+use Rattle.frames.specs.declared.refusal.Refusal.{Refusal}
+use Rattle.frames.specs.declared.refusal.Refusal.TheVariants.{NoHead}
+use Rattle.frames.specs.RefusalLaws.{refused}
 use Rattle.text.specs.Lines.{first_line}
 use Rattle.text.specs.LinesLaws.{first-most, end_inside}
 use Rattle.raft.specs.Record.{fresh}
@@ -13,33 +15,20 @@ use Rattle.record.specs.declared.Record.{Record}
 use Rattle.record.specs.Calls.{record_of}
 use Rattle.journal.specs.Lines.{lines, mask_in}
 use Rattle.journal.specs.Opening.{is_head}
-use Rattle.opening.specs.declared.Replayed as declared
-use Rattle.opening.specs.Calls.{Replays, heading, Blocks, stopped, replay_each, replaying_lines, ReplaysLines}
-use Rattle.opening.specs.ReplayCode.{line-goes, broken-leaves, lines_end, lines_next}
-use Rattle.opening.specs.OpenCode.{head-mask}
+use Rattle.opening.specs.Calls.{Replays, heading, Heads, Blocks, stopped, replay_each, replaying_lines, ReplaysLines}
+use Rattle.opening.specs.ToldLaws.{not_0}
+use Rattle.opening.specs.ReplayCode.{line-goes, broken-number, broken-leaves, lines_end, lines_next}
 
 -- ---- the head
 
-module _ (me : ℕ) (line : List ℕ) {mask : ℕ} (f : mask ≡ cond (is_head me line) (mask_in line) 0) where
-  pub no_head : mask ≡ 0 → {n : Record} → n ≡ record_of (fresh 0 0)
-      → ◌≡◌ {A = declared.Replayed} (record { refusal = 11; state = n }) (heading me line)
+module _ (me : ℕ) (line : List ℕ) where
+  pub no_head : is_head me line ≡ false → Heads me line (Err NoHead)
   unfolding heading
-  no_head z {n} e = go (is_head me line) refl
-    where
-      go : (b : Bool) → is_head me line ≡ b → ◌≡◌ {A = declared.Replayed} (record { refusal = 11; state = n }) (heading me line)
-      go true q = absurd (head-mask me line q (sym (f ∙ rw q) ∙ z))
-      go false q = rw (q, e)
+  no_head q = rw q
 
-  pub a-head : (mask ≡ 0 → ⊥) → {n : Record} → n ≡ record_of (fresh me mask)
-      → ◌≡◌ {A = declared.Replayed} (record { refusal = 0; state = n }) (heading me line)
+  pub a-head : {mask : ℕ} → is_head me line ≡ true → mask ≡ mask_in line → {n : Record} → n ≡ record_of (fresh me mask) → Heads me line (Ok n)
   unfolding heading
-  a-head z {n} e = go (is_head me line) refl
-    where
-      go : (b : Bool) → is_head me line ≡ b → ◌≡◌ {A = declared.Replayed} (record { refusal = 0; state = n }) (heading me line)
-      go true q =
-          let m : mask ≡ mask_in line = f ∙ rw q in
-          rw (q, e, m)
-      go false q = absurd (z (f ∙ rw q))
+  a-head q m {n} e = rw (q, e, m)
 
 -- its log fits
 pub heading-fits : (me : ℕ) (line : List ℕ) → (heading me line).state.last ≤ log_limit
@@ -72,7 +61,7 @@ module _ {start : Record} {bytes terms₀ orders₀ : List ℕ} {state : Record}
     (s : Counted start bytes terms₀ orders₀ state terms orders at number) {end : ℕ} (e : end ≡ at + first_line (drop at bytes)) where
   -- no whole line is left
   pub counted_end : end ≡ at
-      → ReplaysLines start bytes terms₀ orders₀ (record { refusal = 0; state = state; bytes = at; lines = number }) terms orders
+      → ReplaysLines start bytes terms₀ orders₀ (record { end = Ok tt; state = state; bytes = at; lines = number }) terms orders
   unfolding replay_each
   counted_end z =
       record {
@@ -81,8 +70,7 @@ module _ {start : Record} {bytes terms₀ orders₀ : List ℕ} {state : Record}
         room = s.room;
       }
 
-  module _ (z : end ≡ at → ⊥) {one : declared.Replayed} {terms' orders' : List ℕ}
-      (a : Replays state (take (end - at) (drop at bytes)) terms orders one terms' orders') where
+  module _ (z : end ≡ at → ⊥) where
     some : first_line (drop at bytes) ≡ 0 → ⊥
     some q = z (omega (arith, e, q))
 
@@ -90,28 +78,29 @@ module _ {start : Record} {bytes terms₀ orders₀ : List ℕ} {state : Record}
     gone = omega (arith, e)
 
     -- a line that breaks a rule
-    pub counted_stop : (one.refusal ≡ 0 → ⊥)
-        → ReplaysLines start bytes terms₀ orders₀ (record { refusal = 10; state = state; bytes = at; lines = number }) terms' orders'
+    pub counted_stop : (r : Refusal) {terms' orders' : List ℕ} → Replays state (take (end - at) (drop at bytes)) terms orders (Err r) terms' orders'
+        → ReplaysLines start bytes terms₀ orders₀ (record { end = Err r; state = state; bytes = at; lines = number }) terms' orders'
     unfolding replay_each
-    counted_stop r =
+    counted_stop r a =
         record {
-          leaves = rw ((broken-leaves _ _ _ _ a r).0, (broken-leaves _ _ _ _ a r).1) (sym (s.same ∙ stops));
+          leaves = rw (broken-number _ _ _ _ a (not_0 r), (broken-leaves _ _ _ _ a (not_0 r)).0, (broken-leaves _ _ _ _ a (not_0 r)).1) (sym (s.same ∙ stops));
           inside = s.inside;
           room = s.room;
         }
       where
         stops : replay_each (reached state at number terms orders) (lines (drop at bytes)) ≡ stopped (reached state at number terms orders)
-        stops = rw ((lines_next bytes at s.inside some).0, ← gone, ← a, ne_eqb one.refusal 0 r)
+        stops = rw ((lines_next bytes at s.inside some).0, ← gone, ← a, refused r)
 
     -- one line more
-    pub counted_next : one.refusal ≡ 0 → Counted start bytes terms₀ orders₀ one.state terms' orders' end (number + 1)
+    pub counted_next : {next : Record} {terms' orders' : List ℕ} → Replays state (take (end - at) (drop at bytes)) terms orders (Ok next) terms' orders'
+        → Counted start bytes terms₀ orders₀ next terms' orders' end (number + 1)
     unfolding replay_each
-    counted_next r =
+    counted_next a =
         record {
           inside = end_inside bytes s.inside e;
           few = omega (arith, e, s.few, z);
-          room = λ h. (line-goes _ _ _ _ a r).room;
-          same = s.same ∙ rw ((lines_next bytes at s.inside some).0, ← e, ← gone, ← a, eq-eqb one.refusal 0 r, long);
+          room = λ h. (line-goes _ _ _ _ a refl).room;
+          same = s.same ∙ rw ((lines_next bytes at s.inside some).0, ← e, ← gone, ← a, long);
         }
       where
         long : at + length (take (end - at) (drop at bytes)) ≡ end

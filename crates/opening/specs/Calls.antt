@@ -1,8 +1,11 @@
--- The calls: the structs that the code has, the lent log, and what a call leaves in each. Assumes nothing.
-use Rattle.std.specs.Prelude.{ℕ, ◌+◌, ◌≤◌, ◌≡◌, Bool, true, cond, ◌&&◌, List, [], ◌∷◌, eqb, leb, length, drop}
+-- The calls: the structs that the code has, the lent log, and what a call leaves in each. An answer is told as 01 tells it: its number, 0 where there is no refusal,
+-- and the values beside it. Assumes nothing.
+use Rattle.std.specs.Prelude.{ℕ, ◌+◌, ◌≤◌, ◌≡◌, Bool, true, cond, ◌&&◌, List, [], ◌∷◌, eqb, leb, length, drop, Result, Ok, Err}
 use Rattle.digits.specs.Room.{over}
 use Rattle.frames.specs.Limits.{log_limit, entry_limit}
 use Rattle.frames.specs.declared.Entry.{Entry}
+use Rattle.frames.specs.declared.refusal.Refusal.{Refusal}
+use Rattle.frames.specs.Refusal.{number, code}
 use Rattle.frames.specs.Fields.{listed}
 use Rattle.raft.specs.Record.{fresh, with_term, with_vote, with_log}
 use Rattle.raft.specs.Journal.{Line}
@@ -10,8 +13,9 @@ use Rattle.raft.specs.Lent.{entries_of, terms_of, orders_of}
 use Rattle.record.specs.declared.Record.{Record}
 use Rattle.record.specs.Calls.{with_entries, state_of, record_of}
 use Rattle.opening.specs.declared.LineFields.{LineFields}
-use Rattle.opening.specs.declared.Replayed as declared
 use Rattle.opening.specs.declared.Opened as answers
+use Rattle.opening.specs.declared.Unopened.{Unopened}
+use Rattle.opening.specs.declared.Unopened.TheVariants.{NoHead, BadLine}
 use Rattle.opening.specs.declared.Block.{Block}
 use Rattle.journal.specs.Lines.{lines, whole_bytes, mask_in, count_in, line_shaped}
 use Rattle.journal.specs.Opening.{restarted, is_of_box, term_holds, vote_is, vote_stays, Replayed, next, breaks, replayed}
@@ -21,13 +25,6 @@ use Rattle.journal.specs.Opening.{Opened, opened, headless, broken, replay, is_h
 pub record LentLog (terms orders : List ℕ) : Type 0 where
   pub terms_long : length terms ≡ log_limit
   pub orders_long : length orders ≡ log_limit
-
--- A log made aside, of so many entries, and places for them in the lent one.
-pub record HandsOver (terms orders terms-made orders-made : List ℕ) (last : ℕ) : Type 0 where
-  pub in_terms : last ≤ length terms
-  pub in_orders : last ≤ length orders
-  pub in_terms_made : last ≤ length terms-made
-  pub in_orders_made : last ≤ length orders-made
 
 -- ---- one line
 
@@ -60,8 +57,12 @@ pub record Advances (b : Record) (l : LineFields) (next : Record) : Type 0 where
   pub last : next.last ≡ l.kept + l.count
 
 -- One line over the record so far: the next record and its log, or 10 and all as it was.
+pub record ReplayedTold : Type 0 where
+  pub refusal : ℕ
+  pub state : Record
+
 pub record Replaying : Type 0 where
-  pub answer : declared.Replayed
+  pub answer : ReplayedTold
   pub terms : List ℕ
   pub orders : List ℕ
 
@@ -73,25 +74,45 @@ replaying_by breaks b terms orders = record { answer = record { refusal = 10; st
 unfoldable pub replaying : Record → List ℕ → List ℕ → List ℕ → Replaying
 replaying b bytes terms orders = replaying_by (replayed (state_of b terms orders) bytes) b terms orders
 
+-- What an answer tells: 0 and the next record, or the refusal's number and the record as it was.
+abbrev pub told_replay : Record → Result Record Refusal → ReplayedTold
+told_replay b (Ok n) = record { refusal = 0; state = n }
+told_replay b (Err r) = record { refusal = number r; state = b }
+
 -- As the contract says it: the lent things before, the answer, and the lent things behind it.
-abbrev pub Replays : Record → (line terms orders : List ℕ) → declared.Replayed → (terms' orders' : List ℕ) → Type 0
-Replays b line terms orders answer terms' orders' =
-    ◌≡◌ {A = Replaying} (record { answer = answer; terms = terms'; orders = orders' }) (replaying b line terms orders)
+abbrev pub Tells : Record → (line terms orders : List ℕ) → ReplayedTold → (terms' orders' : List ℕ) → Type 0
+Tells b line terms orders told terms' orders' =
+    ◌≡◌ {A = Replaying} (record { answer = told; terms = terms'; orders = orders' }) (replaying b line terms orders)
+
+abbrev pub Replays : Record → (line terms orders : List ℕ) → Result Record Refusal → (terms' orders' : List ℕ) → Type 0
+Replays b line terms orders answer terms' orders' = Tells b line terms orders (told_replay b answer) terms' orders'
 
 -- ---- a whole journal
 
 -- Opening: the record, its log and the byte count, or 11, or 10 and the line's number. "opening returns no record": zeros, and the lent
 -- log as it was.
+pub record OpenedTold : Type 0 where
+  pub refusal : ℕ
+  pub state : Record
+  pub bytes : ℕ
+  pub fault : ℕ
+
 pub record Opening : Type 0 where
-  pub answer : answers.Opened
+  pub answer : OpenedTold
   pub terms : List ℕ
   pub orders : List ℕ
 
 abbrev pub none : Record
 none = record_of (fresh 0 0)
 
+-- What an answer tells.
+abbrev pub told_open : Result answers.Opened Unopened → OpenedTold
+told_open (Ok found) = record { refusal = 0; state = found.state; bytes = found.bytes; fault = 0 }
+told_open (Err NoHead) = record { refusal = 11; state = none; bytes = 0; fault = 0 }
+told_open (Err (BadLine line)) = record { refusal = 10; state = none; bytes = 0; fault = line }
+
 -- What the replay of all lines leaves: the answer, and a log made aside that is the record's; of a log that is not handed over nothing is said.
-unfoldable pub Found : answers.Opened → List ℕ → List ℕ → Opened → Type 0
+unfoldable pub Found : OpenedTold → List ℕ → List ℕ → Opened → Type 0
 Found r terms orders (opened s bytes) =
     (r ≡ record { refusal = 0; state = record_of s; bytes = bytes; fault = 0 }) × (entries_of terms orders 0 (length s.log) ≡ s.log)
     × (length s.log ≤ log_limit)
@@ -105,9 +126,9 @@ pub record Begins (start : Record) (bytes : List ℕ) (first : ℕ) (terms order
   pub behind : 2 ≤ first
   pub room : start.last ≤ log_limit
 
-abbrev pub Finds : Record → (bytes : List ℕ) (first : ℕ) (terms orders : List ℕ) → answers.Opened → (terms' orders' : List ℕ) → Type 0
+abbrev pub Finds : Record → (bytes : List ℕ) (first : ℕ) (terms orders : List ℕ) → Result answers.Opened Unopened → (terms' orders' : List ℕ) → Type 0
 Finds start bytes first terms orders answer terms' orders' =
-    Found answer terms' orders' (replay (first + whole_bytes (drop first bytes)) (state_of start terms orders) 2 (lines (drop first bytes)))
+    Found (told_open answer) terms' orders' (replay (first + whole_bytes (drop first bytes)) (state_of start terms orders) 2 (lines (drop first bytes)))
 
 unfoldable pub opening_by : Opened → List ℕ → List ℕ → Opening
 opening_by (opened s bytes) terms orders =
@@ -124,19 +145,30 @@ opening_by (broken line) terms orders =
 unfoldable pub opens : ℕ → List ℕ → List ℕ → List ℕ → Opening
 opens box bytes terms orders = opening_by (opening box bytes) terms orders
 
-abbrev pub Opens : ℕ → (bytes terms orders : List ℕ) → answers.Opened → (terms' orders' : List ℕ) → Type 0
+abbrev pub Opens : ℕ → (bytes terms orders : List ℕ) → Result answers.Opened Unopened → (terms' orders' : List ℕ) → Type 0
 Opens box bytes terms orders answer terms' orders' =
-    ◌≡◌ {A = Opening} (record { answer = answer; terms = terms'; orders = orders' }) (opens box bytes terms orders)
+    ◌≡◌ {A = Opening} (record { answer = told_open answer; terms = terms'; orders = orders' }) (opens box bytes terms orders)
 
 -- ---- block by block
 
 -- The head alone: the fresh record of the box asked for, or 11 and no record.
-unfoldable pub heading : ℕ → List ℕ → declared.Replayed
+unfoldable pub heading : ℕ → List ℕ → ReplayedTold
 heading box line =
     cond (is_head box line) (record { refusal = 0; state = record_of (fresh box (mask_in line)) }) (record { refusal = 11; state = none })
 
+-- As the contract says it.
+abbrev pub Heads : ℕ → List ℕ → Result Record Refusal → Type 0
+Heads box line answer = told_replay none answer ≡ heading box line
+
+-- 0, or 10 where the line behind those replayed breaks a rule; the record, and how many bytes and lines were replayed.
+pub record BlockTold : Type 0 where
+  pub refusal : ℕ
+  pub state : Record
+  pub bytes : ℕ
+  pub lines : ℕ
+
 pub record Blocks : Type 0 where
-  pub answer : Block
+  pub answer : BlockTold
   pub terms : List ℕ
   pub orders : List ℕ
 
@@ -169,8 +201,12 @@ unfoldable pub replaying_lines : Record → List ℕ → List ℕ → List ℕ �
 replaying_lines b bytes terms orders =
     replay_each (record { answer = record { refusal = 0; state = b; bytes = 0; lines = 0 }; terms = terms; orders = orders }) (lines bytes)
 
+-- What an answer tells.
+abbrev pub told_block : Block → BlockTold
+told_block r = record { refusal = code r.end; state = r.state; bytes = r.bytes; lines = r.lines }
+
 -- As the contract says it; what was replayed lies within the bytes, and a log that fitted fits.
 pub record ReplaysLines (b : Record) (bytes terms orders : List ℕ) (answer : Block) (terms' orders' : List ℕ) : Type 0 where
-  pub leaves : ◌≡◌ {A = Blocks} (record { answer = answer; terms = terms'; orders = orders' }) (replaying_lines b bytes terms orders)
+  pub leaves : ◌≡◌ {A = Blocks} (record { answer = told_block answer; terms = terms'; orders = orders' }) (replaying_lines b bytes terms orders)
   pub inside : answer.bytes ≤ length bytes
   pub room : b.last ≤ log_limit → answer.state.last ≤ log_limit

@@ -1,6 +1,6 @@
 -- What the code's proofs use: whole lines, their form and fields, and their rules on the structs. Assumes nothing.
-use Rattle.std.specs.Prelude.{ℕ, suc, ◌+◌, ◌*◌, ◌≤◌, ◌<◌, ◌≡◌, refl, Bool, true, false, cond, ◌&&◌, ◌||◌, List, [], ◌∷◌, eqb, ltb, leb, length, take}
-use Rattle.std.proofs.Common.{arith, sym, ap, ◌∙◌, eqb-true, leb-true, eq-eqb, ne_eqb}
+use Rattle.std.specs.Prelude.{ℕ, suc, ◌+◌, ◌*◌, ◌≤◌, ◌<◌, ◌≡◌, refl, Bool, true, false, cond, ◌&&◌, ◌||◌, List, [], ◌∷◌, eqb, ltb, leb, length, take, Option, Some, None, Result, Ok, Err, ok_or, is_ok}
+use Rattle.std.proofs.Common.{arith, sym, ap, ◌∙◌, true≢false, eqb-true, leb-true, eq-eqb, ne_eqb}
 use Rattle.std.proofs.Math.Bool.{and-true, and-false}
 use Rattle.std.proofs.lemmas.Bool.{eqb-false}
 use Rattle.digits.specs.Digits.{field, run}
@@ -82,19 +82,36 @@ unfolding head_shaped
 head_nine_long s h =
     eqb-true (length s) 9 (four (is_line s) (eqb (version s) 1) (eqb (kind s) 17) (eqb (length s) (text_size 4)) h).3
 
-pub head-not : (me : ℕ) (s : List ℕ) → head_shaped s ≡ false → 0 ≡ cond (is_head me s) (mask_in s) 0
+pub head-not : (me : ℕ) (s : List ℕ) → head_shaped s ≡ false → ◌≡◌ {A = Option ℕ} None (cond (is_head me s) (Some (mask_in s)) None)
 unfolding is_head
 head-not me s h = rw h
 
 pub head-is : (me : ℕ) (s : List ℕ) (b m : ℕ) (g : Bool) → head_shaped s ≡ true → b ≡ field s 4 1 → m ≡ field s 6 1 → g ≡ is_membership me m
-    → (eqb b me && g) ≡ true → m ≡ cond (is_head me s) (mask_in s) 0
+    → (eqb b me && g) ≡ true → ◌≡◌ {A = Option ℕ} (Some m) (cond (is_head me s) (Some (mask_in s)) None)
 unfolding is_head box_in mask_in
 head-is me s b m g h e f k a = rw (h, ← e, ← f, ← k, a)
 
 pub head_another : (me : ℕ) (s : List ℕ) (b m : ℕ) (g : Bool) → head_shaped s ≡ true → b ≡ field s 4 1 → m ≡ field s 6 1 → g ≡ is_membership me m
-    → (eqb b me && g) ≡ false → 0 ≡ cond (is_head me s) (mask_in s) 0
+    → (eqb b me && g) ≡ false → ◌≡◌ {A = Option ℕ} None (cond (is_head me s) (Some (mask_in s)) None)
 unfolding is_head box_in mask_in
 head_another me s b m g h e f k a = rw (h, ← e, ← f, ← k, a)
+
+-- what is known where no mask was found, and where one was
+module _ (me : ℕ) (s : List ℕ) {E : Type 0} (none : E) {o : Option ℕ} (f : o ≡ cond (is_head me s) (Some (mask_in s)) None) {x : Result ℕ E}
+    (e : x ≡ ok_or o none) where
+  pub mask-none : {why : E} → x ≡ Err why → (is_head me s ≡ false) × (why ≡ none)
+  mask-none {why} w = go (is_head me s) refl
+    where
+      go : (b : Bool) → is_head me s ≡ b → (is_head me s ≡ false) × (why ≡ none)
+      go true q = let is : x ≡ Ok (mask_in s) = e ∙ rw (f, q) refl in absurd (true≢false (ap is_ok (sym is ∙ w)))
+      go false q = let is : x ≡ Err none = e ∙ rw (f, q) refl in (q, cc)
+
+  pub mask-some : {mask : ℕ} → x ≡ Ok mask → (is_head me s ≡ true) × (mask ≡ mask_in s)
+  mask-some {mask} w = go (is_head me s) refl
+    where
+      go : (b : Bool) → is_head me s ≡ b → (is_head me s ≡ true) × (mask ≡ mask_in s)
+      go true q = let is : x ≡ Ok (mask_in s) = e ∙ rw (f, q) refl in (q, cc)
+      go false q = let is : x ≡ Err none = e ∙ rw (f, q) refl in absurd (true≢false (ap is_ok (sym w ∙ is)))
 
 -- ---- the form of a line
 

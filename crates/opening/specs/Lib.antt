@@ -1,5 +1,6 @@
 -- Opening as calls: the structs, the lent log, and what each call leaves; then what the code's proofs use.
 pub mod Calls
+pub mod ToldLaws
 pub mod CodeLaws
 pub mod ReplayCode
 pub mod OpenCode

@@ -1,6 +1,6 @@
 -- What an answer of `open` says, of every answer that meets its contract (`Opens`): 11, and 10 with a line's number, are given exactly when 01's rows say so, and
 -- after 0 the struct and the lent log are the record that opening finds. Assumes nothing.
-use Rattle.std.specs.Prelude.{ℕ, ◌≡◌, List}
+use Rattle.std.specs.Prelude.{ℕ, ◌≡◌, List, Result}
 use Rattle.std.proofs.Common.{arith, sym, subst, ◌∙◌}
 use Rattle.std.proofs.Math.Path.{refl, ap}
 use Rattle.raft.specs.Record.{State, fresh}
@@ -11,7 +11,8 @@ use Rattle.journal.specs.Lines.{lines}
 use Rattle.journal.specs.Opening.{Opened, opened, headless, broken, opening}
 use Rattle.journal.proofs.OpeningExactly.{Headed, Breaks, headless_exactly, headless-when, broken_exactly, broken-when}
 use Rattle.opening.specs.declared.Opened as answers
-use Rattle.opening.specs.Calls.{Opening, opening_by, opens, Opens}
+use Rattle.opening.specs.declared.Unopened.{Unopened}
+use Rattle.opening.specs.Calls.{Opening, told_open, opening_by, opens, Opens}
 
 -- What is found, and what is answered of it.
 module _ (terms orders : List ℕ) where
@@ -46,25 +47,26 @@ finds me bytes terms orders (opened s n) e z = record { found = e ∙ ap (λ (t 
 finds me bytes terms orders headless e z = absurd (omega (arith, z))
 finds me bytes terms orders (broken line) e z = absurd (omega (arith, z))
 
-module _ (me : ℕ) (bytes terms orders : List ℕ) (r : answers.Opened) (terms' orders' : List ℕ) (c : Opens me bytes terms orders r terms' orders') where
-  told : ◌≡◌ {A = Opening} (record { answer = r; terms = terms'; orders = orders' }) (opening_by (opening me bytes) terms orders)
+module _ (me : ℕ) (bytes terms orders : List ℕ) (r : Result answers.Opened Unopened) (terms' orders' : List ℕ)
+    (c : Opens me bytes terms orders r terms' orders') where
+  told : ◌≡◌ {A = Opening} (record { answer = told_open r; terms = terms'; orders = orders' }) (opening_by (opening me bytes) terms orders)
   unfolding opens
   told = c
 
   -- **11: "no whole line, or the first is no proper head".**
-  pub row_11 : Exactly (r.refusal ≡ 11) (Headed me bytes → ⊥)
+  pub row_11 : Exactly ((told_open r).refusal ≡ 11) (Headed me bytes → ⊥)
   row_11 =
-      let number : r.refusal ≡ (opening_by (opening me bytes) terms orders).answer.refusal = ap (λ (x : Opening). x.answer.refusal) told in
+      let number : (told_open r).refusal ≡ (opening_by (opening me bytes) terms orders).answer.refusal = ap (λ (x : Opening). x.answer.refusal) told in
       record {
         only = λ e. headless_exactly me bytes (is-headless terms orders (opening me bytes) (sym number ∙ e));
         when = λ h. number ∙ says-headless terms orders (opening me bytes) (headless-when me bytes h);
       }
 
   -- **10: "a whole line after the head breaks a rule; the first such line's number, the head being 1".**
-  pub row_10 : (n : ℕ) → Exactly ((r.refusal ≡ 10) × (r.fault ≡ n)) ((h : Headed me bytes) × Breaks (fresh me h.mask) 2 (lines h.rest) n)
+  pub row_10 : (n : ℕ) → Exactly (((told_open r).refusal ≡ 10) × ((told_open r).fault ≡ n)) ((h : Headed me bytes) × Breaks (fresh me h.mask) 2 (lines h.rest) n)
   row_10 n =
-      let number : r.refusal ≡ (opening_by (opening me bytes) terms orders).answer.refusal = ap (λ (x : Opening). x.answer.refusal) told in
-      let line : r.fault ≡ (opening_by (opening me bytes) terms orders).answer.fault = ap (λ (x : Opening). x.answer.fault) told in
+      let number : (told_open r).refusal ≡ (opening_by (opening me bytes) terms orders).answer.refusal = ap (λ (x : Opening). x.answer.refusal) told in
+      let line : (told_open r).fault ≡ (opening_by (opening me bytes) terms orders).answer.fault = ap (λ (x : Opening). x.answer.fault) told in
       record {
         only = λ e. broken_exactly me bytes n (is-broken terms orders (opening me bytes) n (sym number ∙ e.0) (sym line ∙ e.1));
         when = λ p.
@@ -73,7 +75,7 @@ module _ (me : ℕ) (bytes terms orders : List ℕ) (r : answers.Opened) (terms'
       }
 
   -- **After the answer 0 the struct and the lent log are the record that opening finds, and the bytes are its count.**
-  pub opened_record : r.refusal ≡ 0 → opening me bytes ≡ opened (state_of r.state terms' orders') r.bytes
+  pub opened_record : (told_open r).refusal ≡ 0 → opening me bytes ≡ opened (state_of (told_open r).state terms' orders') (told_open r).bytes
   opened_record z =
       let number = ap (λ (x : Opening). x.answer.refusal) told in
       (subst (Finds me bytes) (sym told) (finds me bytes terms orders (opening me bytes) refl (sym number ∙ z))).found

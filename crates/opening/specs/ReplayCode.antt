@@ -1,5 +1,5 @@
 -- One line and all lines, as the code comes to them: the answer, the record's struct and the lent log. Assumes nothing.
-use Rattle.std.specs.Prelude.{ℕ, ◌+◌, ◌-◌, ◌≤◌, ◌<◌, min, ◌≡◌, Bool, cond, ◌&&◌, List, [], ◌∷◌, ◌++◌, leb, length, take, drop}
+use Rattle.std.specs.Prelude.{ℕ, ◌+◌, ◌-◌, ◌≤◌, ◌<◌, min, ◌≡◌, Bool, cond, ◌&&◌, List, [], ◌∷◌, ◌++◌, leb, length, take, drop, Ok, Err}
 use Rattle.std.proofs.Common.{add-zero, arith, ◌∙◌, true≢false, length-append, length-take, take-append-drop, length-take-le, drop-drop, leb-true}
 use Rattle.std.proofs.Math.Nat.{sub-zero}
 use Rattle.std.proofs.Math.Numerals.{add-one}
@@ -8,6 +8,8 @@ use Rattle.std.proofs.Math.Bool.{true, false, and-false}
 use Rattle.digits.specs.Room.{over}
 use Rattle.digits.specs.Tests.{and_left, and_right}
 use Rattle.frames.specs.declared.Entry.{Entry}
+use Rattle.frames.specs.declared.refusal.Refusal.{Refusal}
+use Rattle.frames.specs.declared.refusal.Refusal.TheVariants.{BadLine}
 use Rattle.frames.specs.Limits.{log_limit, entry_limit}
 use Rattle.frames.specs.Fields.{listed}
 use Rattle.frames.specs.Clauses.{four}
@@ -27,9 +29,8 @@ use Rattle.journal.proofs.LinesLaws.{lines_none, lines-first, counted_none, coun
 use Rattle.journal.specs.Opening.{restarted, is_of_box, term_holds, vote_is, vote_stays, kept_holds, count_holds, entries_hold, allows, after}
 use Rattle.journal.specs.Opening.{Replayed, next, breaks, replayed, Opened, go_on, replay}
 use Rattle.opening.specs.declared.LineFields.{LineFields}
-use Rattle.opening.specs.declared.Replayed as declared
-use Rattle.opening.specs.declared.Opened as answers
-use Rattle.opening.specs.Calls.{LentLog, line_of, allows_numbers, Advances, Replaying, replaying_by, replaying, Replays, none, Found, Begins}
+use Rattle.opening.specs.Calls.{LentLog, line_of, allows_numbers, Advances, ReplayedTold, Replaying, replaying_by, replaying, Tells, Replays, none, Found, Begins}
+use Rattle.opening.specs.ToldLaws.{not_0}
 use Rattle.opening.specs.CodeLaws.{first-none, first-whole, allows-by, Numbers, numbers}
 
 -- ---- one line
@@ -53,23 +54,22 @@ module _ (b : Record) (bytes terms orders : List ℕ) where
   s = state_of b terms orders
 
   -- A line that breaks a rule is answered so, and all is as it was.
-  module _ {r : declared.Replayed} (f : r ≡ record { refusal = 10; state = b }) where
-    pub replay_unshaped : line_shaped bytes ≡ false → Replays b bytes terms orders r terms orders
-    unfolding replaying replaying_by replayed
-    replay_unshaped h = rw (h, f)
+  pub replay_unshaped : line_shaped bytes ≡ false → Replays b bytes terms orders (Err BadLine) terms orders
+  unfolding replaying replaying_by replayed
+  replay_unshaped h = rw h
 
-    pub replay-refused : allows s (line_in bytes) ≡ false → Replays b bytes terms orders r terms orders
-    unfolding replaying replaying_by replayed
-    replay-refused h = rw (h, and-false (line_shaped bytes), f)
+  pub replay-refused : allows s (line_in bytes) ≡ false → Replays b bytes terms orders (Err BadLine) terms orders
+  unfolding replaying replaying_by replayed
+  replay-refused h = rw (h, and-false (line_shaped bytes))
 
-    -- more entries than a line has
-    pub replay_many : entry_limit < count_in bytes → Replays b bytes terms orders r terms orders
-    unfolding line_in
-    replay_many h = replay-refused (go (allows s (line_in bytes)) refl)
-      where
-        go : (x : Bool) → allows s (line_in bytes) ≡ x → allows s (line_in bytes) ≡ false
-        go true e = absurd (omega (arith, h, count-few s (line_in bytes) e, length-entries bytes 22 (count_in bytes)))
-        go false e = e
+  -- more entries than a line has
+  pub replay_many : entry_limit < count_in bytes → Replays b bytes terms orders (Err BadLine) terms orders
+  unfolding line_in
+  replay_many h = replay-refused (go (allows s (line_in bytes)) refl)
+    where
+      go : (x : Bool) → allows s (line_in bytes) ≡ x → allows s (line_in bytes) ≡ false
+      go true e = absurd (omega (arith, h, count-few s (line_in bytes) e, length-entries bytes 22 (count_in bytes)))
+      go false e = e
 
   -- a good line
   module _ (l : LineFields) (h : line_shaped bytes ≡ true) (e : line_of l ≡ line_in bytes) (a : allows s (line_of l) ≡ true)
@@ -114,7 +114,7 @@ module _ (b : Record) (bytes terms orders : List ℕ) where
     pub replay-next : {n : Record} {terms' orders' : List ℕ} → Advances b l n
         → terms' ≡ over terms (l.kept + 0) (terms_of (listed l.entries 0 (l.count - 0)))
         → orders' ≡ over orders (l.kept + 0) (orders_of (listed l.entries 0 (l.count - 0)))
-        → Replays b bytes terms orders (record { refusal = 0; state = n }) terms' orders'
+        → Replays b bytes terms orders (Ok n) terms' orders'
     unfolding replaying replaying_by after restarted
     replay-next {n} {terms'} {orders'} f t o = leaves ∙ sym (ap (λ (x : Replayed). replaying_by x b terms orders) goes)
       where
@@ -139,8 +139,8 @@ replayed-room s bytes t = go (line_shaped bytes && allows s (line_in bytes)) ref
         rw (← same) (rw length-append (omega (arith, room, length-take (line_in bytes).kept s.log)))
     go false a e = let never : ◌≡◌ {A = Bool} true false = cc in absurd (true≢false never)
 
-module _ (b : Record) (bytes terms orders : List ℕ) {one : declared.Replayed} {terms' orders' : List ℕ}
-    (e : Replays b bytes terms orders one terms' orders') where
+module _ (b : Record) (bytes terms orders : List ℕ) {one : ReplayedTold} {terms' orders' : List ℕ}
+    (e : Tells b bytes terms orders one terms' orders') where
   abbrev comes : Replayed
   comes = replayed (state_of b terms orders) bytes
 
@@ -157,6 +157,11 @@ module _ (b : Record) (bytes terms orders : List ℕ) {one : declared.Replayed} 
       go : (r : Replayed) → comes ≡ r → comes ≡ breaks
       go (next t) k = absurd (h (ap (λ (x : Replaying). x.answer.refusal) (by k)))
       go breaks k = k
+
+  -- is answered 10,
+  pub broken-number : (one.refusal ≡ 0 → ⊥) → one.refusal ≡ 10
+  unfolding replaying_by
+  broken-number h = ap (λ (x : Replaying). x.answer.refusal) (by (line-breaks h))
 
   -- leaves the log,
   pub broken-leaves : (one.refusal ≡ 0 → ⊥) → (terms' ≡ terms) × (orders' ≡ orders)
@@ -260,8 +265,7 @@ module _ {bytes : List ℕ} {first : ℕ} {start : State} {state : Record} {term
       long : length (entries_of terms orders 0 state.last) ≡ state.last
       long = length-entries_of terms orders 0 state.last
 
-  module _ (z : end ≡ at → ⊥) {one : declared.Replayed} {terms' orders' : List ℕ}
-      (a : Replays state (take (end - at) (drop at bytes)) terms orders one terms' orders') where
+  module _ (z : end ≡ at → ⊥) where
     some : first_line (drop at bytes) ≡ 0 → ⊥
     some q = z (omega (arith, e, q))
 
@@ -269,16 +273,17 @@ module _ {bytes : List ℕ} {first : ℕ} {start : State} {state : Record} {term
     gone = omega (arith, e)
 
     -- a line that breaks a rule
-    pub reached-broken : (one.refusal ≡ 0 → ⊥) → {r : answers.Opened} → r ≡ record { refusal = 10; state = none; bytes = 0; fault = number }
-        → (ts os : List ℕ) → Found r ts os (all bytes first start)
+    pub reached-broken : (r : Refusal) {terms' orders' : List ℕ} → Replays state (take (end - at) (drop at bytes)) terms orders (Err r) terms' orders'
+        → Found (record { refusal = 10; state = none; bytes = 0; fault = number }) terms' orders' (all bytes first start)
     unfolding Found replay go_on
-    reached-broken q f ts os = rw (s.same, (lines_next bytes at s.inside some).0, ← gone, line-breaks _ _ _ _ a q) f
+    reached-broken r a = rw (s.same, (lines_next bytes at s.inside some).0, ← gone, line-breaks _ _ _ _ a (not_0 r)) refl
 
     -- and a good one
-    pub reached-next : one.refusal ≡ 0 → LentLog terms' orders' → Reached bytes first start one.state terms' orders' end (number + 1)
+    pub reached-next : {next : Record} {terms' orders' : List ℕ} → Replays state (take (end - at) (drop at bytes)) terms orders (Ok next) terms' orders'
+        → LentLog terms' orders' → Reached bytes first start next terms' orders' end (number + 1)
     unfolding replay go_on
-    reached-next q lent =
-        let goes = line-goes _ _ _ _ a q in
+    reached-next a lent =
+        let goes = line-goes _ _ _ _ a refl in
         record {
           lent = lent;
           inside = end_inside bytes s.inside e;

@@ -1,27 +1,20 @@
 // A journal that is longer than memory: its head, then block by block the whole lines of each.
 ghost use Rattle.std.specs.Prelude.{◌≡◌};
-ghost use Rattle.opening.specs.Calls.{heading, ReplaysLines};
+ghost use Rattle.opening.specs.Calls.{Heads, ReplaysLines};
 
+use crate::Block;
 use crate::lines::head_mask;
 use crate::whole::replay_line;
-use crate::{Block, Replayed};
+use frames::Refusal;
 use record::Record;
 use text::line_end;
 
-// The head alone: the fresh record of the box asked for, or 11.
-pub fn replay_head(me: u8, line: &[u8]) -> Replayed
-    ensures { result ≡ heading me line.now }
+// The head alone: the fresh record of the box asked for.
+pub fn replay_head(me: u8, line: &[u8]) -> Result<Record, Refusal>
+    ensures { Heads me line.now result }
 {
-    let mask = head_mask(me, line);
-    if mask == 0 {
-        let none = Record::fresh(0, 0);
-        return Replayed {
-            refusal: 11,
-            state: none,
-        };
-    }
-    let state = Record::fresh(me, mask);
-    Replayed { refusal: 0, state }
+    let mask = head_mask(me, line).ok_or(Refusal::NoHead)?;
+    Ok(Record::fresh(me, mask))
 }
 
 // The whole lines of some bytes over a record, up to the first that breaks a rule.
@@ -36,27 +29,22 @@ pub fn replay_lines(
     let mut state = n;
     let mut at = 0;
     let mut lines: usize = 0;
-    loop {
+    let end = loop {
         let end = line_end(bytes, at);
         if end == at {
-            return Block {
-                refusal: 0,
-                state,
-                bytes: at,
-                lines,
-            };
+            break Ok(());
         }
-        let one = replay_line(state, &bytes[at..end], terms, orders);
-        if one.refusal != 0 {
-            return Block {
-                refusal: 10,
-                state,
-                bytes: at,
-                lines,
-            };
+        match replay_line(state, &bytes[at..end], terms, orders) {
+            Ok(next) => state = next,
+            Err(refusal) => break Err(refusal),
         }
-        state = one.state;
         at = end;
         lines += 1;
+    };
+    Block {
+        end,
+        state,
+        bytes: at,
+        lines,
     }
 }

@@ -1,12 +1,16 @@
 // A box's journal, opened: whole at once, or line by line for one that is longer than memory.
 #![tactic(auto)]
 
+ghost use Rattle.std.specs.Prelude.{◌≡◌, Err};
+ghost use Rattle.frames.specs.Refusal.{number};
+ghost use Rattle.opening.specs.Calls.{told_open};
+
 mod blocks;
 mod lines;
 mod whole;
 
 pub use blocks::{replay_head, replay_lines};
-use frames::{Entry, Fields};
+use frames::{Entry, Fields, Refusal};
 pub use lines::is_head_shaped;
 use record::Record;
 pub use whole::{open, replay};
@@ -22,28 +26,39 @@ pub struct LineFields {
     pub entries: [Entry; Fields::ENTRIES],
 }
 
-// One line's answer: 0 and the next record, or 10 and the record as it was.
-#[derive(Clone, Copy)]
-pub struct Replayed {
-    pub refusal: u8,
-    pub state: Record,
-}
-
-// Opening's answer: 0, the record and the bytes up to and with the last line feed; or 11; or 10 and the number of the line.
-// On a refusal the record is all zeros.
+// What opening finds: the record, and the bytes up to and with the last line feed.
 #[derive(Clone, Copy)]
 pub struct Opened {
-    pub refusal: u8,
     pub state: Record,
     pub bytes: usize,
-    pub fault: usize,
 }
 
-// What was made of a block of lines: 0, or 10 where the line behind those replayed breaks a rule; the record, and how many bytes and
-// lines were replayed.
+// Why a journal does not open, and "opening returns no record".
+#[derive(Clone, Copy, PartialEq, Eq)]
+pub enum Unopened {
+    // "no whole line, or the first is no proper head"
+    NoHead,
+    // "a whole line after the head breaks a rule; the first such line's number, the head being 1"
+    BadLine { line: usize },
+}
+
+impl Unopened {
+    // 01's refusal.
+    pub fn refusal(self) -> Refusal
+        ensures { number result ≡ (told_open (Err self)).refusal }
+    {
+        match self {
+            Unopened::NoHead => Refusal::NoHead,
+            Unopened::BadLine { .. } => Refusal::BadLine,
+        }
+    }
+}
+
+// What was made of a block of lines: the record, and how many bytes and lines were replayed. What was replayed counts also where the line
+// behind it breaks a rule, so the answer is no `Result`: its end is one, `Ok` where no whole line is left.
 #[derive(Clone, Copy)]
 pub struct Block {
-    pub refusal: u8,
+    pub end: Result<(), Refusal>,
     pub state: Record,
     pub bytes: usize,
     pub lines: usize,

@@ -1,5 +1,5 @@
 // A journal's lines: their form, their fields, and the rules that one keeps behind the record so far.
-ghost use Rattle.std.specs.Prelude.{◌≡◌, cond, List, ℕ, ◌≤◌};
+ghost use Rattle.std.specs.Prelude.{◌≡◌, cond, List, ℕ, ◌≤◌, Some, None};
 ghost use Rattle.frames.specs.Limits.{entry_limit};
 ghost use Rattle.record.specs.Calls.{state_of};
 ghost use Rattle.journal.specs.Lines.{mask_in, head_shaped, line_shaped, line_in};
@@ -24,18 +24,18 @@ pub fn is_head_shaped(s: &[u8]) -> bool
     (digits::get_u8(s, 0) == 1) & (digits::get_u8(s, 2) == 17)
 }
 
-// The mask of a head for the box asked for, a membership that holds it; 0 where the line is no such head.
-pub fn head_mask(me: u8, s: &[u8]) -> u8
-    ensures { result ≡ cond (is_head me s.now) (mask_in s.now) 0 }
+// The mask of a head for the box asked for, a membership that holds it.
+pub fn head_mask(me: u8, s: &[u8]) -> Option<u8>
+    ensures { result ≡ cond (is_head me s.now) (Some (mask_in s.now)) None }
 {
     if !is_head_shaped(s) {
-        return 0;
+        return None;
     }
     let mask = digits::get_u8(s, 6);
     if (digits::get_u8(s, 4) == me) & rules::is_membership(me, mask) {
-        return mask;
+        return Some(mask);
     }
-    0
+    None
 }
 
 // The form of a line: one line, version 01, kind 10, as long as its count tells.

@@ -1,26 +1,15 @@
 // Opening: the head, then one line at a time over a record of fixed size. The log is made aside and handed over only when every line
 // was good.
-ghost use Rattle.std.specs.Prelude.{◌≡◌, ◌+◌, ◌≤◌, take};
-ghost use Rattle.digits.specs.Room.{over};
+ghost use Rattle.std.specs.Prelude.{◌+◌, ◌≤◌};
 ghost use Rattle.frames.specs.Limits.{log_limit};
-ghost use Rattle.opening.specs.Calls.{LentLog, HandsOver, Advances, Replays, none, Begins, Finds, Opens};
+ghost use Rattle.opening.specs.Calls.{LentLog, Advances, Replays, Begins, Finds, Opens};
 
 use crate::lines::{head_mask, is_allowed, is_shaped, line_fields};
-use crate::{LineFields, Opened, Replayed};
+use crate::{LineFields, Opened, Unopened};
 use changes::following;
-use frames::Fields;
+use frames::{Fields, Refusal};
 use record::Record;
 use text::line_end;
-
-// 10: the record stays as it was.
-fn breaks(n: Record) -> Replayed
-    ensures { result ≡ record { refusal = 10; state = n } }
-{
-    Replayed {
-        refusal: 10,
-        state: n,
-    }
-}
 
 // The record with a line replayed: a follower, commit 0.
 fn after(n: Record, l: LineFields) -> Record
@@ -36,24 +25,28 @@ fn after(n: Record, l: LineFields) -> Record
 }
 
 // One whole line, with its line feed, over any record.
-pub fn replay_line(n: Record, line: &[u8], terms: &mut [u32], orders: &mut [u64]) -> Replayed
+pub fn replay_line(
+    n: Record,
+    line: &[u8],
+    terms: &mut [u32],
+    orders: &mut [u64],
+) -> Result<Record, Refusal>
     requires { LentLog terms.old orders.old }
     ensures { Replays n line.now terms.old orders.old result terms.new orders.new }
 {
     if !is_shaped(line) {
-        return breaks(n);
+        return Err(Refusal::BadLine);
     }
     if Fields::ENTRIES < digits::get_u8(line, 20) as usize {
-        return breaks(n);
+        return Err(Refusal::BadLine);
     }
     let l = line_fields(line);
     if !is_allowed(n, l, &terms[..]) {
-        return breaks(n);
+        return Err(Refusal::BadLine);
     }
     let entries = l.entries;
     rules::store(terms, orders, l.kept as usize, entries, 0, l.count as usize);
-    let state = after(n, l);
-    Replayed { refusal: 0, state }
+    Ok(after(n, l))
 }
 
 // The same from outside, for journals that are longer than memory.
@@ -62,23 +55,10 @@ pub fn replay(
     line: &[u8],
     terms: &mut [u32; Record::LOG],
     orders: &mut [u64; Record::LOG],
-) -> Replayed
+) -> Result<Record, Refusal>
     ensures { Replays n line.now terms.old orders.old result terms.new orders.new }
 {
     replay_line(n, line, terms, orders)
-}
-
-// "opening returns no record": 10 with the line's number, or 11.
-fn refused(number: u8, line: usize) -> Opened
-    ensures { result ≡ record { refusal = number; state = none; bytes = 0; fault = line } }
-{
-    let state = Record::fresh(0, 0);
-    Opened {
-        refusal: number,
-        state,
-        bytes: 0,
-        fault: line,
-    }
 }
 
 // The lines from a place on, one after the other.
@@ -88,86 +68,44 @@ fn replay_all(
     first: usize,
     terms: &mut [u32],
     orders: &mut [u64],
-) -> Opened
+) -> Result<Opened, Unopened>
     requires { Begins start bytes.now first terms.old orders.old }
     ensures { Finds start bytes.now first terms.old orders.old result terms.new orders.new }
 {
     let mut state = start;
     let mut at = first;
-    let mut number: usize = 2;
+    let mut line: usize = 2;
     loop {
         let end = line_end(bytes, at);
         if end == at {
-            return Opened {
-                refusal: 0,
-                state,
-                bytes: at,
-                fault: 0,
-            };
+            return Ok(Opened { state, bytes: at });
         }
-        let one = replay_line(state, &bytes[at..end], terms, orders);
-        if one.refusal != 0 {
-            return refused(10, number);
-        }
-        state = one.state;
+        let Ok(next) = replay_line(state, &bytes[at..end], terms, orders) else {
+            return Err(Unopened::BadLine { line });
+        };
+        state = next;
         at = end;
-        number += 1;
+        line += 1;
     }
 }
 
-// The made log's entries, handed over.
-fn hand_over(
-    terms: &mut [u32],
-    orders: &mut [u64],
-    terms_made: &[u32],
-    orders_made: &[u64],
-    last: usize,
-)
-    requires { HandsOver terms.old orders.old terms_made.now orders_made.now last }
-    ensures terms_after { terms.new ≡ over terms.old 0 (take last terms_made.now) }
-    ensures orders_after { orders.new ≡ over orders.old 0 (take last orders_made.now) }
-{
-    let mut i = 0;
-    while i < last {
-        terms[i] = terms_made[i];
-        orders[i] = orders_made[i];
-        i += 1;
-    }
-}
-
-// A whole journal: the record and the bytes up to and with the last line feed, or 11, or 10 with the line's number.
+// A whole journal: the record and the bytes up to and with the last line feed.
 pub fn open(
     me: u8,
     bytes: &[u8],
     terms: &mut [u32; Record::LOG],
     orders: &mut [u64; Record::LOG],
-) -> Opened
+) -> Result<Opened, Unopened>
     ensures { Opens me bytes.now terms.old orders.old result terms.new orders.new }
 {
     let end = line_end(bytes, 0);
-    let mask = head_mask(me, &bytes[..end]);
-    if mask == 0 {
-        return refused(11, 0);
-    }
+    let mask = head_mask(me, &bytes[..end]).ok_or(Unopened::NoHead)?;
     let mut terms_made = [0u32; Record::LOG];
     let mut orders_made = [0u64; Record::LOG];
-    let found = replay_all(
-        Record::fresh(me, mask),
-        bytes,
-        end,
-        &mut terms_made,
-        &mut orders_made,
-    );
-    if found.refusal != 0 {
-        return found;
-    }
-    let state = found.state;
-    hand_over(
-        terms,
-        orders,
-        &terms_made,
-        &orders_made,
-        state.last as usize,
-    );
-    found
+    let start = Record::fresh(me, mask);
+    let found = replay_all(start, bytes, end, &mut terms_made, &mut orders_made)?;
+    let last = found.state.last as usize;
+    terms[..last].copy_from_slice(&terms_made[..last]);
+    orders[..last].copy_from_slice(&orders_made[..last]);
+    Ok(found)
 }

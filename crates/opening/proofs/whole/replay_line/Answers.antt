@@ -9,7 +9,7 @@ use Rattle.opening.proofs.whole.replay_line.Goals as goal
 pub returns-then-not-is_shaped : goal.returns-then-not-is_shaped
 returns-then-not-is_shaped c =
     let unshaped = sym c.is_shaped.ensures ∙ c.if-not-is_shaped.true in
-    replay_unshaped c.args.n c.args.line.now c.args.terms.now c.args.orders.now c.breaks.ensures unshaped
+    replay_unshaped c.args.n c.args.line.now c.args.terms.now c.args.orders.now unshaped
 
 pub get_u8-requires : goal.get_u8-requires
 get_u8-requires c =
@@ -19,7 +19,7 @@ get_u8-requires c =
 pub returns-then-get_u8-gt-ENTRIES : goal.returns-then-get_u8-gt-ENTRIES
 unfolding count_in
 returns-then-get_u8-gt-ENTRIES c =
-    replay_many c.args.n c.args.line.now c.args.terms.now c.args.orders.now c.breaks-then-get_u8-gt-ENTRIES.ensures
+    replay_many c.args.n c.args.line.now c.args.terms.now c.args.orders.now
     (omega (arith, c.get_u8.ensures, c.if-get_u8-gt-ENTRIES.true))
 
 pub line_fields-l-requires : goal.line_fields-l-requires
@@ -31,7 +31,7 @@ line_fields-l-requires c =
 pub returns-then-not-is_allowed : goal.returns-then-not-is_allowed
 returns-then-not-is_allowed c =
     let broken = sym (c.is_allowed.ensures c.args.orders.now) ∙ c.if-not-is_allowed.true in
-    replay-refused c.args.n c.args.line.now c.args.terms.now c.args.orders.now c.breaks-then-not-is_allowed.ensures (rw (sym c.line_fields-l.ensures.result_value) broken)
+    replay-refused c.args.n c.args.line.now c.args.terms.now c.args.orders.now (rw (sym c.line_fields-l.ensures.result_value) broken)
 
 pub store-requires : goal.store-requires
 store-requires c =
@@ -44,8 +44,8 @@ store-requires c =
       in_orders = omega (arith, fits.room, c.requires.orders_long);
     }
 
-pub after-state-requires : goal.after-state-requires
-after-state-requires c =
+pub after-requires : goal.after-requires
+after-requires c =
     let holds = sym (c.is_allowed.ensures c.args.orders.now) ∙ c.if-not-is_allowed.false in
     (allowed-numbers c.args.n _ c.args.terms.now c.args.orders.now holds).room
 
@@ -54,4 +54,4 @@ returns c =
     let shaped = sym c.is_shaped.ensures ∙ c.if-not-is_shaped.false in
     let holds = sym (c.is_allowed.ensures c.args.orders.now) ∙ c.if-not-is_allowed.false in
     let next = replay-next c.args.n c.args.line.now c.args.terms.now c.args.orders.now _ shaped c.line_fields-l.ensures.result_value holds c.requires in
-    next c.after-state.ensures c.store.ensures.terms_after c.store.ensures.orders_after
+    next c.after.ensures c.store.ensures.terms_after c.store.ensures.orders_after
