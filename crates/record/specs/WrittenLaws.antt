@@ -301,3 +301,8 @@ module _ {n : Record} {d : Decision} {offered : List Entry} {terms orders : List
         terms'' orders'' journal' messages'
     lent-left journal messages f jo me =
         rw (same-terms, same-orders) (fitting_left journal messages f (rw (same-terms, same-orders) at jo) (rw (same-terms, same-orders) at me))
+
+  -- where the new entries were stored behind the place of the offered ones
+  pub stored_at : {stored : List ℕ} (i : ℕ) (old new : List ℕ) → i + d.first ≡ d.kept → stored ≡ over old (i + d.first) new
+      → stored ≡ over old d.kept new
+  stored_at i old new e h = rw (← e) h
