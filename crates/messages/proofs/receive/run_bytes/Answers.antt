@@ -4,7 +4,8 @@ use mathlib.Core.Path.{◌∙◌}
 use Rattle.frames.specs.Laws.{listed-take}
 use Rattle.raft.specs.Event.{step, receives}
 use Rattle.record.specs.Calls.{state_of}
-use Rattle.record.specs.DecidingLaws.{sound, finished, exit-leaves, decides_as}
+use Rattle.record.specs.DecidingLaws.{sound, finished, decides_as}
+use Rattle.record.proofs.RefusalLaws.{exit-leaves}
 use Rattle.messages.specs.Required.{brings_blank, brings_own}
 use Rattle.messages.specs.DeliverLaws.{read-not, read-frame, frame-few}
 use Rattle.messages.proofs.receive.run_bytes.Goals as goal
