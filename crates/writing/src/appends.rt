@@ -10,7 +10,7 @@ ghost use Rattle.record.specs.Sizes.{share, shares, previous, entry_count, appen
 ghost use Rattle.record.specs.SizeLaws.{only};
 
 use crate::journal_lines::put_logged;
-use crate::others::shares;
+use crate::others::{put_to_others, shares};
 use frames::Fields;
 use record::Record;
 use rules::{is_other, term_at};
@@ -106,37 +106,14 @@ pub fn put_append(room: &mut [u8], n: Record, terms: &[u32], orders: &[u64], i: 
     );
 }
 
-// Box i's append, from a place on, or nothing; the answer is the place behind it.
-fn put_append_at(
-    room: &mut [u8],
-    at: usize,
-    n: Record,
-    terms: &[u32],
-    orders: &[u64],
-    i: u8,
-) -> usize
-    requires { AppendFitsAt n i at terms.now orders.now room.old }
-    ensures value { result ≡ at + share n (append_size n) i }
-    ensures room_after { room.new ≡ over room.old at (texts (only
-        (state_of n terms.now orders.now) (append_to (state_of n terms.now orders.now)) i)) }
-{
-    if !is_other(n.me, n.members, i) {
-        return at;
-    }
-    put_append(&mut room[at..], n, terms, orders, i);
-    at + append_size(n, i)
-}
-
 // An append to each other member.
 pub fn put_appends(room: &mut [u8], n: Record, terms: &[u32], orders: &[u64])
     requires { AppendsFit n terms.now orders.now room.old }
     ensures { room.new ≡ over room.old 0
         (texts (appends (state_of n terms.now orders.now))) }
 {
-    let mut at = 0;
-    let mut i = 1;
-    while i <= Fields::BOXES {
-        at = put_append_at(room, at, n, terms, orders, i);
-        i += 1;
-    }
+    put_to_others(room, n, |part, i| {
+        put_append(part, n, terms, orders, i);
+        append_size(n, i)
+    });
 }
