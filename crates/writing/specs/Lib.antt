@@ -1,2 +1,2 @@
 -- What the writing for several boxes is.
-pub mod Puts
+pub mod Others

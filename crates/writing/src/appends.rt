@@ -1,50 +1,34 @@
 // "Append to j", and an append to each other member in rising box number.
-ghost use Rattle.std.specs.Prelude.{◌≡◌, ◌+◌, ◌≤◌};
+ghost use Rattle.std.specs.Prelude.{◌≡◌, ◌≤◌};
 ghost use Rattle.digits.specs.Room.{over};
 ghost use Rattle.frames.specs.Limits.{IsBox, boxes, entry_limit, longest_message};
 ghost use Rattle.frames.specs.Message.{append, text};
 ghost use Rattle.raft.specs.Sends.{append_to, texts, appends};
 ghost use Rattle.raft.specs.Lent.{entries_of};
 ghost use Rattle.record.specs.Calls.{state_of};
-ghost use Rattle.record.specs.Sizes.{share, shares, previous, entry_count, append_size, Loggable, AppendFits, AppendFitsAt, AppendsFit};
-ghost use Rattle.record.specs.SizeLaws.{only};
+ghost use Rattle.record.specs.Sizes.{shares, previous, entry_count, append_size, Loggable, AppendFits, AppendsFit};
 
 use crate::journal_lines::put_logged;
 use crate::others::{put_to_others, shares};
 use frames::Fields;
 use record::Record;
-use rules::{is_other, term_at};
+use rules::term_at;
 
 // "Previous index = next - 1"
 fn previous(n: Record, i: u8) -> u16
     requires { IsBox i }
     ensures { result ≡ previous n i }
 {
-    let at = (i - 1) as usize;
     let lead = n.lead;
-    let next = lead.next[at];
-    if next == 0 {
-        return 0;
-    }
-    next - 1
+    lead.next[(i - 1) as usize].saturating_sub(1)
 }
-
-// 01's limit of entries, as a count.
-const MOST: u8 = Fields::ENTRIES as u8;
 
 // "up to 4 entries from next on"
 fn entry_count(last: u16, previous: u16) -> u8
     ensures value { result ≡ entry_count last previous }
     ensures upper_bound { result ≤ entry_limit }
 {
-    if last <= previous {
-        return 0;
-    }
-    let left = last - previous;
-    if MOST as u16 <= left {
-        return MOST;
-    }
-    (left % 256) as u8
+    last.saturating_sub(previous).min(Fields::ENTRIES as u16) as u8
 }
 
 // The bytes of the append to box i.

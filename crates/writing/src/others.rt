@@ -6,7 +6,7 @@ ghost use Rattle.frames.specs.Message.{Message};
 ghost use Rattle.record.specs.Calls.{with_entries};
 ghost use Rattle.record.specs.Sizes.{shares};
 ghost use Rattle.record.specs.SizeLaws.{others_to};
-ghost use Rattle.writing.specs.Puts.{RoomForAll, Puts};
+ghost use Rattle.writing.specs.Others.{RoomForAll, Puts};
 
 use frames::Fields;
 use record::Record;

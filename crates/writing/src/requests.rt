@@ -1,22 +1,22 @@
 // "vote request to every other member", in rising box number.
-ghost use Rattle.std.specs.Prelude.{◌≡◌, List, [], ℕ, ◌+◌, ◌≤◌, length};
+ghost use Rattle.std.specs.Prelude.{◌≡◌, [], ◌≤◌, length};
 ghost use Rattle.digits.specs.Room.{over};
-ghost use Rattle.frames.specs.Limits.{boxes, IsBox};
-ghost use Rattle.raft.specs.Sends.{texts};
+ghost use Rattle.frames.specs.Limits.{boxes};
 ghost use Rattle.record.specs.Calls.{with_entries};
-ghost use Rattle.record.specs.Sizes.{share, shares, request_size, ShareFits};
-ghost use Rattle.record.specs.SizeLaws.{asks, only, others_to};
+ghost use Rattle.record.specs.Sizes.{shares, request_size};
+ghost use Rattle.record.specs.SizeLaws.{asks, others_to};
 
 use crate::others::{put_to_others, shares};
-use frames::Fields;
 use record::Record;
-use rules::is_other;
 
-// The bytes of all vote requests, of 29 bytes each.
+// The bytes of a vote request.
+const REQUEST: usize = 29;
+
+// The bytes of all vote requests.
 pub fn requests_size(n: Record) -> usize
     ensures { result ≡ shares n request_size boxes }
 {
-    shares(n, |_| 29)
+    shares(n, |_| REQUEST)
 }
 
 // A request to each other member; the last entry's term is found by the caller.
@@ -26,6 +26,6 @@ pub fn put_requests(room: &mut [u8], n: Record, last_term: u32)
 {
     put_to_others(room, n, |part, i| {
         frame_writer::put_vote_request(part, n.me, i, n.term, n.last, last_term);
-        29
+        REQUEST
     });
 }

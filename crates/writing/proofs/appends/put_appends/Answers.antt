@@ -4,7 +4,7 @@ use Rattle.digits.specs.Room.{over}
 use Rattle.raft.specs.Sends.{append_to}
 use Rattle.record.specs.Calls.{state_of}
 use Rattle.record.specs.SizeLaws.{append_to-long}
-use Rattle.writing.specs.Puts.{appended}
+use Rattle.writing.specs.Others.{appended}
 use Rattle.writing.proofs.appends.put_appends.Goals as goal
 
 pub returns : goal.returns

@@ -6,7 +6,7 @@ use Rattle.frames.specs.Message.{text}
 use Rattle.record.specs.Calls.{with_entries}
 use Rattle.record.specs.Deciding.{OtherBox}
 use Rattle.record.specs.SizeLaws.{others_to, shares-none, to_nobody, over_nothing, rest-long}
-use Rattle.writing.specs.Puts.{fits_there, share_adds, share_skips, put_next, skip_next}
+use Rattle.writing.specs.Others.{fits_there, share_adds, share_skips, put_next, skip_next}
 use Rattle.writing.proofs.others.put_to_others.Goals.{then-is_other, else-is_other}
 use Rattle.writing.proofs.others.put_to_others.Goals as goal
 

@@ -2,7 +2,7 @@
 use Rattle.std.proofs.Common.{◌≡◌, ℕ, ◌-◌}
 use Rattle.frames.specs.Message.{Message}
 use Rattle.record.specs.Sizes.{shares}
-use Rattle.writing.specs.Puts.{Tells, Puts, Filled}
+use Rattle.writing.specs.Others.{Tells, Puts, Filled}
 use Rattle.writing.proofs.others.put_to_others.Given as goal
 
 abbrev pub invariant-loop-i : goal.invariant-loop-i

@@ -3,7 +3,7 @@ use Rattle.std.proofs.Common.{◌≡◌, ◌-◌, sym, ap, ◌∙◌, arith}
 use Rattle.frames.specs.Limits.{IsBox, boxes}
 use Rattle.record.specs.Sizes.{shares}
 use Rattle.record.specs.SizeLaws.{shares-none}
-use Rattle.writing.specs.Puts.{share_adds, share_skips}
+use Rattle.writing.specs.Others.{share_adds, share_skips}
 use Rattle.writing.proofs.others.shares.Goals.{then-is_other, else-is_other}
 use Rattle.writing.proofs.others.shares.Goals as goal
 
