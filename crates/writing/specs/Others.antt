@@ -43,14 +43,14 @@ fits_there b size i l h o =
     omega (arith, shares_turn b size i l, shares-within b size (i + 1 - 1) boxes (omega arith), own)
 
 -- another member adds its share, and any other box none
-pub share_adds : (b : Record) (size : ℕ → ℕ) (i sum more : ℕ) → 1 ≤ i → sum ≡ shares b size (i - 1) → is_other b.me b.members i ≡ true → more ≡ size i
-    → sum + more ≡ shares b size (i + 1 - 1)
-share_adds b size i sum more l e o m =
-    let own : share b size i ≡ more = rw o (sym m) in omega (arith, shares_turn b size i l, e, own)
+pub share_adds : (b : Record) (size : ℕ → ℕ) (i sum more sum' : ℕ) → 1 ≤ i → sum ≡ shares b size (i - 1) → is_other b.me b.members i ≡ true → more ≡ size i
+    → sum' ≡ sum + more → sum' ≡ shares b size (i + 1 - 1)
+share_adds b size i sum more sum' l e o m f =
+    let own : share b size i ≡ more = rw o (sym m) in omega (arith, shares_turn b size i l, e, own, f)
 
-pub share_skips : (b : Record) (size : ℕ → ℕ) (i sum : ℕ) → 1 ≤ i → sum ≡ shares b size (i - 1) → is_other b.me b.members i ≡ false
-    → sum ≡ shares b size (i + 1 - 1)
-share_skips b size i sum l e o = let none : share b size i ≡ 0 = rw o in omega (arith, shares_turn b size i l, e, none)
+pub share_skips : (b : Record) (size : ℕ → ℕ) (i sum sum' : ℕ) → 1 ≤ i → sum ≡ shares b size (i - 1) → is_other b.me b.members i ≡ false
+    → sum' ≡ sum → sum' ≡ shares b size (i + 1 - 1)
+share_skips b size i sum sum' l e o f = let none : share b size i ≡ 0 = rw o in omega (arith, shares_turn b size i l, e, none, f)
 
 module _ (b : Record) (m : ℕ → Message) where
   -- The room once the boxes before i have their messages.
@@ -72,13 +72,14 @@ module _ (b : Record) (m : ℕ → Message) where
       (q ∙ rw p (over-rest room at (text (m i)) (omega (arith, f)))))
 
   -- or box i gets none.
-  pub skip_next : (room₀ room : List ℕ) (i : ℕ) → 1 ≤ i → Filled room₀ room i → is_other b.me b.members i ≡ false → Filled room₀ room (i + 1)
+  pub skip_next : (room₀ room room' : List ℕ) (i : ℕ) → 1 ≤ i → Filled room₀ room i → is_other b.me b.members i ≡ false → room' ≡ room
+      → Filled room₀ room' (i + 1)
   unfolding texts
-  skip_next room₀ room i l t o =
+  skip_next room₀ room room' i l t o q =
       let here : i + 1 - 1 ≡ i - 1 + 1 = omega arith in
       let same : i - 1 + 1 ≡ i = omega arith in
       let none : texts (only (with_entries b []) m (i - 1 + 1)) ≡ [] = rw (same, o) in
-      rw (here, others_more (with_entries b []) m (i - 1), none, append-nil) t
+      rw (here, others_more (with_entries b []) m (i - 1), none, append-nil) (q ∙ t)
 
 -- whom a message goes to does not hang on the log
 others_alike : (b : Record) (log : List Entry) (m : ℕ → Message) (i n : ℕ) → to_others (with_entries b []) m i n ≡ to_others (with_entries b log) m i n

@@ -1,4 +1,4 @@
-// "Append to j", and an append to each other member in rising box number.
+// "Append to j", and an append to each other member in rising box number. The log is lent as C lends it: its terms and its orders, apart.
 ghost use Rattle.std.specs.Prelude.{◌≡◌, ◌≤◌};
 ghost use Rattle.digits.specs.Room.{over};
 ghost use Rattle.frames.specs.Limits.{IsBox, boxes, entry_limit, longest_message};
@@ -47,7 +47,8 @@ pub fn appends_size(n: Record) -> usize
     shares(n, |i| append_size(n, i))
 }
 
-// An append whose entries stand in the lent log behind the previous index.
+// An append whose entries stand in the lent log behind the previous index. Its fields come one by one: a struct of them would be written in small pieces and
+// read back in large ones, which is slower (docs/BENCH.md).
 fn put_append_from(
     room: &mut [u8],
     from: u8,

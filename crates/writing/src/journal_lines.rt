@@ -1,4 +1,4 @@
-// The journal's head and lines.
+// The journal's head and lines. The log is lent as C lends it: its terms and its orders, apart.
 ghost use Rattle.std.specs.Prelude.{◌≡◌, [], ◌∷◌, ◌-◌, ◌≤◌, length};
 ghost use Rattle.digits.specs.Room.{over};
 ghost use Rattle.frames.specs.Message.{number, entry_fields, spell};

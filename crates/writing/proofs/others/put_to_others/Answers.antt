@@ -55,8 +55,8 @@ loop-i-preserved g c =
           let bytes = c.requires.tells _ c.loop-i.i w.put-at.result _ to w.put-at.ensures in
           record {
             place = λ size h.
-                w.at-is ∙ share_adds c.args.n size c.loop-i.i c.loop-i.at w.put-at.result (omega arith) (c.loop-i.invariant.place size h) other
-                (h _ c.loop-i.i w.put-at.result _ to w.put-at.ensures);
+                share_adds c.args.n size c.loop-i.i c.loop-i.at w.put-at.result c.if-is_other.at (omega arith) (c.loop-i.invariant.place size h) other
+                (h _ c.loop-i.i w.put-at.result _ to w.put-at.ensures) w.at-is;
             text = λ m h.
                 let put = h _ c.loop-i.i w.put-at.result _ to w.put-at.ensures in
                 put_next c.args.n m c.args.room.now c.loop-i.room _ c.if-is_other.room c.loop-i.at c.loop-i.i w.put-at.result (omega arith)
@@ -72,8 +72,9 @@ loop-i-preserved g c =
       | else-is_other w ↦
           let none = sym c.is_other.ensures ∙ w.if-is_other.false in
           record {
-            place = λ size h. w.at-is ∙ share_skips c.args.n size c.loop-i.i c.loop-i.at (omega arith) (c.loop-i.invariant.place size h) none;
-            text = λ m h. w.room-is ∙ skip_next c.args.n m c.args.room.now c.loop-i.room c.loop-i.i (omega arith) (c.loop-i.invariant.text m h) none;
+            place = λ size h. share_skips c.args.n size c.loop-i.i c.loop-i.at c.if-is_other.at (omega arith) (c.loop-i.invariant.place size h) none w.at-is;
+            text = λ m h.
+                skip_next c.args.n m c.args.room.now c.loop-i.room c.if-is_other.room c.loop-i.i (omega arith) (c.loop-i.invariant.text m h) none w.room-is;
           }
     ]
 

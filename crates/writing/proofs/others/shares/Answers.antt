@@ -18,18 +18,21 @@ pub loop-i-preserved : goal.loop-i-preserved
 loop-i-preserved g c =
     elim c.if-is_other.branch [
       | then-is_other w ↦
+          let other = sym c.is_other.ensures ∙ w.if-is_other.true in
           let box : IsBox c.loop-i.i = record { least = omega arith; most = omega arith } in
           record {
             low = omega (arith, w.bytes-is, c.requires.low c.loop-i.i w.size-bytes.result box w.size-bytes.ensures);
             summed = λ share h.
-                w.bytes-is ∙ share_adds c.args.n share c.loop-i.i c.loop-i.bytes w.size-bytes.result (omega arith) (c.loop-i.invariant.summed share h)
-                (sym c.is_other.ensures ∙ w.if-is_other.true) (h c.loop-i.i w.size-bytes.result box w.size-bytes.ensures);
+                share_adds c.args.n share c.loop-i.i c.loop-i.bytes w.size-bytes.result c.if-is_other.bytes (omega arith) (c.loop-i.invariant.summed share h)
+                other (h c.loop-i.i w.size-bytes.result box w.size-bytes.ensures) w.bytes-is;
           }
       | else-is_other w ↦
+          let none = sym c.is_other.ensures ∙ w.if-is_other.false in
           record {
             low = omega (arith, w.bytes-is);
             summed = λ share h.
-                w.bytes-is ∙ share_skips c.args.n share c.loop-i.i c.loop-i.bytes (omega arith) (c.loop-i.invariant.summed share h) (sym c.is_other.ensures ∙ w.if-is_other.false);
+                share_skips c.args.n share c.loop-i.i c.loop-i.bytes c.if-is_other.bytes (omega arith) (c.loop-i.invariant.summed share h)
+                none w.bytes-is;
           }
     ]
 
