@@ -1,6 +1,6 @@
-// What an event decides: a step that leaves the log alone, or a refusal.
+// What an event decides that leaves the log alone.
 ghost use Rattle.std.specs.Prelude.{◌≡◌};
-ghost use Rattle.record.specs.DecidingLaws.{plain, refusing};
+ghost use Rattle.record.specs.DecidingLaws.{plain};
 
 use record::{Decision, Record, Send};
 
@@ -9,24 +9,8 @@ pub fn step(next: Record, send: Send) -> Decision
     ensures { result ≡ plain next send }
 {
     Decision {
-        refusal: 0,
         next,
         kept: next.last,
-        first: 0,
-        count: 0,
-        send,
-    }
-}
-
-// 01's number.
-pub fn refuse(n: Record, number: u8) -> Decision
-    ensures { result ≡ refusing n number }
-{
-    let send = Send::Nothing;
-    Decision {
-        refusal: number,
-        next: n,
-        kept: n.last,
         first: 0,
         count: 0,
         send,

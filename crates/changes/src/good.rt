@@ -52,7 +52,7 @@ pub fn is_good(n: Record, terms: &[u32]) -> bool
         return false;
     }
     is_vote(n.members, n.vote)
-        & in_order(terms, last as usize, n.term)
+        & in_order(&terms[..last as usize], n.term)
         & (n.commit <= last)
         & is_role(n.role, n.term, n.vote, n.me)
         & are_votes(n.role, n.votes, n.members, n.me)

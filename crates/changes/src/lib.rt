@@ -5,6 +5,6 @@ mod decisions;
 mod good;
 mod roles;
 
-pub use decisions::{refuse, step};
+pub use decisions::step;
 pub use good::is_good;
 pub use roles::{following, standing, taken};

@@ -4,48 +4,36 @@ ghost use Rattle.record.specs.Deciding.{one_entry, decided, Sound};
 
 use crate::bytes::{put_line, put_messages};
 use crate::measuring::measured;
-use crate::refusal::refused;
-use frames::Entry;
+use frames::{Entry, Refusal};
 use record::{Decision, Record, Step};
 
 // A step that may add some of the entries that were offered: they are stored once the step is sure.
 pub fn finish_adding(
     n: Record,
     d: Decision,
-    offered: [Entry; Record::ENTRIES],
+    offered: &[Entry],
     terms: &mut [u32],
     orders: &mut [u64],
     journal: &mut [u8],
     messages: &mut [u8],
-) -> Step
-    requires { Sound n d offered terms.old orders.old }
-    ensures { Runs (decided d offered terms.old orders.old) n
+) -> Result<Step<Record>, Refusal>
+    requires { Sound n d offered.now terms.old orders.old }
+    ensures { Runs (decided d offered.now terms.old orders.old) n
         terms.old orders.old journal.old messages.old result
         terms.new orders.new journal.new messages.new }
 {
     let next = d.next;
     let send = d.send;
-    let sizes = measured(n, d, journal.len(), messages.len());
-    if sizes.refusal != 0 {
-        return refused(n, sizes.refusal);
-    }
-    let first = d.first as usize;
-    rules::store(
-        terms,
-        orders,
-        d.kept as usize - first,
-        offered,
-        first,
-        d.count as usize,
-    );
+    let sizes = measured(n, d, journal.len(), messages.len())?;
+    let added = &offered[d.first as usize..d.count as usize];
+    rules::store(terms, orders, d.kept as usize, added);
     put_line(journal, sizes.line, next, d.kept, &terms[..], &orders[..]);
     put_messages(messages, send, next, &terms[..], &orders[..]);
-    Step {
-        refusal: 0,
-        state: next,
+    Ok(Step {
+        next,
         line: sizes.line,
         sent: sizes.sent,
-    }
+    })
 }
 
 // A step that may add one entry: a client's order, or a new leader's blank.
@@ -58,21 +46,12 @@ pub fn finish_one(
     orders: &mut [u64],
     journal: &mut [u8],
     messages: &mut [u8],
-) -> Step
+) -> Result<Step<Record>, Refusal>
     requires { Sound n d (one_entry term order) terms.old orders.old }
     ensures { Runs (decided d (one_entry term order) terms.old orders.old) n
         terms.old orders.old journal.old messages.old result
         terms.new orders.new journal.new messages.new }
 {
-    let none = Entry { term: 0, order: 0 };
     let new = Entry { term, order };
-    finish_adding(
-        n,
-        d,
-        [new, none, none, none],
-        terms,
-        orders,
-        journal,
-        messages,
-    )
+    finish_adding(n, d, &[new], terms, orders, journal, messages)
 }

@@ -3,6 +3,7 @@ ghost use Rattle.std.specs.Prelude.{◌≡◌, ◌≤◌};
 ghost use Rattle.record.specs.Deciding.{Aimed};
 ghost use Rattle.record.specs.Sizes.{is_silent, line_size, sent_size, roomy, measured, Measurable};
 
+use frames::Refusal;
 use record::{Decision, Record, Send, Sizes};
 use writing::{append_size, appends_size, requests_size};
 
@@ -48,33 +49,17 @@ fn fits(line: usize, journal: usize, sent: usize, messages: usize) -> bool
     (line <= journal) & (sent <= messages)
 }
 
-// What is known before anything is written: the decision's own refusal, or 5 where line or messages do not fit, or how long they are.
-pub fn measured(n: Record, d: Decision, journal: usize, messages: usize) -> Sizes
+// What is known before anything is written: how long line and messages are, or 5 where they do not fit.
+pub fn measured(n: Record, d: Decision, journal: usize, messages: usize) -> Result<Sizes, Refusal>
     requires { Measurable d }
     ensures { result ≡ measured n d journal messages }
 {
-    let refusal = d.refusal;
-    if refusal != 0 {
-        return Sizes {
-            refusal,
-            line: 0,
-            sent: 0,
-        };
-    }
     let next = d.next;
     let send = d.send;
     let line = line_size(n, d);
     let sent = sent_size(send, next);
     if !fits(line, journal, sent, messages) {
-        return Sizes {
-            refusal: 5,
-            line: 0,
-            sent: 0,
-        };
+        return Err(Refusal::NoRoom);
     }
-    Sizes {
-        refusal: 0,
-        line,
-        sent,
-    }
+    Ok(Sizes { line, sent })
 }

@@ -5,7 +5,7 @@ ghost use Rattle.record.specs.Deciding.{decided, AddsNone};
 
 use crate::bytes::{put_line, put_messages};
 use crate::measuring::measured;
-use crate::refusal::refused;
+use frames::Refusal;
 use record::{Decision, Record, Step};
 
 // A step that adds no entry.
@@ -16,7 +16,7 @@ pub fn finish(
     orders: &[u64],
     journal: &mut [u8],
     messages: &mut [u8],
-) -> Step
+) -> Result<Step<Record>, Refusal>
     requires { AddsNone n d terms.now orders.now }
     ensures { Runs (decided d [] terms.now orders.now) n
         terms.now orders.now journal.old messages.old result
@@ -24,16 +24,12 @@ pub fn finish(
 {
     let next = d.next;
     let send = d.send;
-    let sizes = measured(n, d, journal.len(), messages.len());
-    if sizes.refusal != 0 {
-        return refused(n, sizes.refusal);
-    }
+    let sizes = measured(n, d, journal.len(), messages.len())?;
     put_line(journal, sizes.line, next, d.kept, terms, orders);
     put_messages(messages, send, next, terms, orders);
-    Step {
-        refusal: 0,
-        state: next,
+    Ok(Step {
+        next,
         line: sizes.line,
         sent: sizes.sent,
-    }
+    })
 }

@@ -12,9 +12,11 @@ use denote.Shadow.{shadow}
 use denote.Array.{each}
 use denote.Laws.{Is}
 use borrow.Fn.Kinds.{GoodsP}
+use Rattle.std.specs.Prelude.{Ok, Err}
 use Rattle.digits.specs.Room.{over}
 use Rattle.frames.specs.declared.Entry.{Entry}
 use Rattle.frames.specs.declared.Fields.{Fields}
+use Rattle.frames.specs.declared.refusal.Refusal.TheVariants.{NotAFrame, NoRoom}
 use Rattle.frames.specs.Message.{text}
 use Rattle.frames.specs.Reading.{reading}
 use Rattle.frames.specs.Fields.{no_entry, message_of, one_frame, answer}
@@ -71,28 +73,31 @@ front : (t d : List ℕ) → take (length t) (t ++ d) ≡ t
 front [] d = refl
 front (x ∷ t) d = ap (λ (l : List ℕ). x ∷ l) (front t d)
 
--- The answer 0 is given to one frame, and then its text stands at the room's start.
-pub record Stands (f : Fields) (w : Wrote) : Type 0 where
+-- `Ok` is answered to one frame, and then its text stands at the room's start, with as many bytes as the answer says.
+pub record Stands (f : Fields) (bytes : ℕ) (w : Wrote) : Type 0 where
   pub one : one_frame f ≡ true
-  pub there : take w.answer.bytes w.room ≡ text (message_of f)
+  pub there : take bytes w.room ≡ text (message_of f)
 
-stands : (f : Fields) (room : List ℕ) → (written f room).answer.refusal ≡ 0 → Stands f (written f room)
+stands : (f : Fields) (room : List ℕ) (n : ℕ) → (written f room).answer ≡ Ok n → Stands f n (written f room)
 unfolding written over
-stands f room = go (one_frame f) refl (leb (length (text (message_of f))) (length room)) _ _ _ (front (text (message_of f)) _) refl refl
+stands f room n = go (one_frame f) refl (leb (length (text (message_of f))) (length room)) _ _ _ (front (text (message_of f)) _) refl refl refl
   where
-    go : (b : Bool) → one_frame f ≡ b → (l : Bool) (x y z : Wrote) → take x.answer.bytes x.room ≡ text (message_of f)
-        → y.answer.refusal ≡ 5 → z.answer.refusal ≡ 1 → (cond b (cond l x y) z).answer.refusal ≡ 0 → Stands f (cond b (cond l x y) z)
-    go true h true x y z t p q e = record { one = h; there = t }
-    go true h false x y z t p q e = absurd (omega (arith, p, e))
-    go false h l x y z t p q e = absurd (omega (arith, q, e))
+    go : (b : Bool) → one_frame f ≡ b → (l : Bool) (x y z : Wrote) → take (length (text (message_of f))) x.room ≡ text (message_of f)
+        → x.answer ≡ Ok (length (text (message_of f))) → y.answer ≡ Err NoRoom → z.answer ≡ Err NotAFrame
+        → (cond b (cond l x y) z).answer ≡ Ok n → Stands f n (cond b (cond l x y) z)
+    go true h true x y z t o p q e =
+        let long : length (text (message_of f)) ≡ n = cc in
+        record { one = h; there = ap (λ (k : ℕ). take k x.room) (sym long) ∙ t }
+    go true h false x y z t o p q e = absurd cc
+    go false h l x y z t o p q e = absurd cc
 
--- **Whoever called `write`, with whatever fields, and was answered 0: what `read` promises of the bytes that it wrote is 0 and those fields.** (`good` is what
+-- **Whoever called `write`, with whatever fields, and was answered `Ok`: what `read` promises of the bytes that it wrote is those fields.** (`good` is what
 -- owning the arguments tells; every call has it.)
-pub reads-back : (κs : _) (a : _) → GoodsP κs kinds.ps a → (r : _) (s : _) → write.Post κs a r s → r.refusal ≡ 0
-    → answer (reading (take r.bytes s.0.now)) ≡ record { refusal = 0; fields = a.1.0 }
-reads-back κs a good r s p z =
+pub reads-back : (κs : _) (a : _) → GoodsP κs kinds.ps a → (r : _) (s : _) → write.Post κs a r s → (bytes : ℕ) → r ≡ Ok bytes
+    → answer (reading (take bytes s.0.now)) ≡ Ok a.1.0
+reads-back κs a good r s p bytes z =
     let f : Fields = a.1.0 in
-    let w = stands f a.0.now (sym (ap (λ (x : Wrote). x.answer.refusal) p) ∙ z) in
-    ap (λ (x : Wrote). answer (reading (take x.answer.bytes x.room))) p
+    let w = stands f a.0.now bytes (sym (ap (λ (x : Wrote). x.answer) p) ∙ z) in
+    ap (λ (x : Wrote). answer (reading (take bytes x.room))) p
     ∙ ap (λ (l : List ℕ). answer (reading l)) w.there
     ∙ read_back f (typed f _ good.1.0) w.one

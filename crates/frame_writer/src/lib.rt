@@ -1,4 +1,4 @@
-// Writing: any fields at all, into room that the caller lends. Refusals 1 and 5 leave the room as it was.
+// Writing: any fields at all, into room that the caller lends. A refusal leaves the room as it was.
 #![tactic(auto)]
 
 ghost use Rattle.std.specs.Prelude.{◌≡◌, [], ◌∷◌, ◌+◌, ◌*◌, ◌≤◌, ◌<◌, length};
@@ -9,7 +9,7 @@ ghost use Rattle.frames.specs.Fields.{listed, message_of};
 ghost use Rattle.frames.specs.Writing.{Wrote, written};
 ghost use Rattle.frame_writer.specs.Writable.{Writable};
 
-use frames::{Entry, Fields, Written, is_frame, size, text_size};
+use frames::{Entry, Fields, Refusal, is_frame, size, text_size};
 
 // "Every frame starts: 01, kind, from, to, term (4)."
 fn put_start(room: &mut [u8], kind: u8, from: u8, to: u8, term: u32)
@@ -74,17 +74,13 @@ pub fn put_entry(room: &mut [u8], at: usize, term: u32, order: u64)
     digits::put_u64(room, at + 8, order);
 }
 
-// So many entries, one behind the other, from a place on. (An inside call: the journal's lines use it too.)
-pub fn put_entries(room: &mut [u8], at: usize, entries: [Entry; Fields::ENTRIES], count: usize)
-    requires count_le_entry_limit { count ≤ entry_limit }
-    requires count_in_bounds { at + 24 * count ≤ length room.old }
-    ensures { room.new ≡ over room.old at (spell (entry_fields (listed entries 0 count))) }
+// Entries, one behind the other, from a place on. (An inside call.)
+pub fn put_entries(room: &mut [u8], at: usize, entries: &[Entry])
+    requires { at + 24 * length entries.now ≤ length room.old }
+    ensures { room.new ≡ over room.old at (spell (entry_fields entries.now)) }
 {
-    let mut i = 0;
-    while i < count {
-        let e = entries[i];
+    for (i, e) in entries.iter().enumerate() {
         put_entry(room, at + 24 * i, e.term, e.order);
-        i += 1;
     }
 }
 
@@ -118,60 +114,57 @@ fn put_append(
     index: u16,
     prior: u32,
     commit: u16,
-    count: u8,
-    entries: [Entry; Fields::ENTRIES],
+    entries: &[Entry],
 )
-    requires count_le_entry_limit { count ≤ entry_limit }
-    requires count_in_bounds { 35 + 24 * count ≤ length room.old }
-    ensures { room.new ≡ over room.old 0 (text (append from to term index prior commit (listed entries 0 count))) }
+    requires few { length entries.now ≤ entry_limit }
+    requires room { 35 + 24 * length entries.now ≤ length room.old }
+    ensures { room.new ≡ over room.old 0 (text (append from to term index prior commit entries.now)) }
 {
-    put_append_start(room, from, to, term, index, prior, commit, count);
-    put_entries(room, 34, entries, count as usize);
-    put_end(room, 34 + 24 * count as usize);
+    put_append_start(
+        room,
+        from,
+        to,
+        term,
+        index,
+        prior,
+        commit,
+        entries.len() as u8,
+    );
+    put_entries(room, 34, entries);
+    put_end(room, 34 + 24 * entries.len());
 }
 
 // The frame of the fields' kind.
+#[tactic(auto, unfolding(frames::specs::Message::by_kind))]
 fn put_frame(room: &mut [u8], f: Fields)
     requires { Writable f room.old }
     ensures { room.new ≡ over room.old 0 (text (message_of f)) }
 {
-    let kind = f.kind;
-    if kind == 1 {
-        put_vote_request(room, f.from, f.to, f.term, f.index, f.prior);
-        return;
+    match f.kind {
+        Fields::VOTE_REQUEST => put_vote_request(room, f.from, f.to, f.term, f.index, f.prior),
+        Fields::VOTE_ANSWER => put_vote_answer(room, f.from, f.to, f.term, f.reply),
+        Fields::APPEND => {
+            let entries = &f.entries[..f.count as usize];
+            put_append(
+                room, f.from, f.to, f.term, f.index, f.prior, f.commit, entries,
+            )
+        }
+        _ => put_append_answer(room, f.from, f.to, f.term, f.reply, f.index),
     }
-    if kind == 2 {
-        put_vote_answer(room, f.from, f.to, f.term, f.reply);
-        return;
-    }
-    if kind == 3 {
-        let entries = f.entries;
-        put_append(
-            room, f.from, f.to, f.term, f.index, f.prior, f.commit, f.count, entries,
-        );
-        return;
-    }
-    put_append_answer(room, f.from, f.to, f.term, f.reply, f.index);
 }
 
-// Refusal 1 exactly when the fields are not one frame, 5 exactly when the room is too short for it;
-// otherwise the frame's bytes at the room's start.
-pub fn write(room: &mut [u8], f: Fields) -> Written
+// `NotAFrame` exactly when the fields are not one frame, `NoRoom` exactly when the room is too short for it;
+// otherwise the frame's bytes at the room's start, and how many.
+pub fn write(room: &mut [u8], f: Fields) -> Result<usize, Refusal>
     ensures { ◌≡◌ {A = Wrote} (record { answer = result; room = room.new }) (written f room.old) }
 {
     if !is_frame(f) {
-        return Written {
-            refusal: 1,
-            bytes: 0,
-        };
+        return Err(Refusal::NotAFrame);
     }
     let bytes = text_size(size(f.kind, f.count));
     if room.len() < bytes {
-        return Written {
-            refusal: 5,
-            bytes: 0,
-        };
+        return Err(Refusal::NoRoom);
     }
     put_frame(room, f);
-    Written { refusal: 0, bytes }
+    Ok(bytes)
 }

@@ -1,6 +1,6 @@
 -- A frame has one spelling: the reader takes exactly the bytes that the writer makes, and each undoes the other.
 -- (`IsSized`: each number fits the bytes of its field.) Assumes nothing.
-use Rattle.std.specs.Prelude.{ℕ, ◌≤◌, ◌<◌, ◌≡◌, refl, Bool, true, false, cond, List, [], ◌∷◌, length, get_or}
+use Rattle.std.specs.Prelude.{ℕ, ◌≤◌, ◌<◌, ◌≡◌, refl, Bool, true, false, cond, List, [], ◌∷◌, length, get_or, Ok}
 use Rattle.std.proofs.Common.{arith, sym, ap, ◌∙◌, le-leb}
 use Rattle.digits.specs.Room.{over}
 use Rattle.digits.specs.Tests.{and_right}
@@ -84,7 +84,7 @@ sized-told f t h =
     entries_fit = sized-listed f.entries (λ i. (t.entry_term i, t.entry_order i)) 0 f.count
 
 -- What the writer wrote, the reader reads as the same fields.
-pub read_back : (f : Fields) → Typed f → one_frame f ≡ true → answer (reading (text (message_of f))) ≡ record { refusal = 0; fields = f }
+pub read_back : (f : Fields) → Typed f → one_frame f ≡ true → answer (reading (text (message_of f))) ≡ Ok f
 unfolding answer
 read_back f t h = rw (reading-text (message_of f) (sized-told f t h) (whole f h).obeyed, fields_told f t.entries h)
 
@@ -104,7 +104,7 @@ one_frame-of (append_answer from to term reply index) o = rw o
 
 -- What the reader read, the writer writes as the same bytes.
 pub write_back : (s room : List ℕ) → is_frame s ≡ true → length s ≤ length room
-    → written (fields_of (message_in s)) room ≡ record { answer = record { refusal = 0; bytes = length s }; room = over room 0 s }
+    → written (fields_of (message_in s)) room ≡ record { answer = Ok (length s); room = over room 0 s }
 unfolding written is_frame
 write_back s room h l =
     let obeyed : obeys (message_in s) ≡ true = and_right (shaped s) _ h in

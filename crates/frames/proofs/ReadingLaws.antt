@@ -1,6 +1,7 @@
 -- What is proved of reading, for the reader's proofs and for 'one spelling'. Assumes nothing.
-use Rattle.std.specs.Prelude.{ℕ, zero, suc, ◌+◌, ◌*◌, ◌≤◌, ◌<◌, ◌≡◌, refl, Bool, true, false, cond, ◌&&◌, List, [], ◌∷◌, eqb, leb, length, get_or, take}
-use Rattle.std.proofs.Common.{add-zero, mul-zero, arith, sym, ap, ◌∙◌, true≢false, eqb-true, leb-true, ne_eqb, eq-eqb, le-leb}
+use Rattle.std.specs.Prelude.{ℕ, zero, suc, ◌+◌, ◌*◌, ◌≤◌, ◌<◌, ◌≡◌, refl, Bool, true, false, cond, ◌&&◌, List, [], ◌∷◌, ◌++◌, eqb, leb, length, get_or, take, Ok}
+use Rattle.std.proofs.Math.Seq.{take-append_seam, get_or-append_seam}
+use Rattle.std.proofs.Common.{add-zero, mul-zero, length-append, arith, sym, ap, ◌∙◌, true≢false, eqb-true, leb-true, ne_eqb, eq-eqb, le-leb}
 use Rattle.digits.specs.Digits.{field, run, all_digits}
 use Rattle.digits.specs.Laws.{run_ends}
 use Rattle.digits.specs.Tests.{and_left, and_right, and_both, at_each}
@@ -70,6 +71,12 @@ no_line s l = rw (ne_eqb (run s + 1) (length s) (omega arith))
 pub line-by : (s : List ℕ) (n : ℕ) → length s ≡ n + 1 → is_line s ≡ (all_digits (take n s) && eqb (get_or s n 0) 10)
 unfolding is_line
 line-by s n l = run_ends s n l
+
+-- so for a text that is a last character behind all before it
+pub line_split : (rest : List ℕ) (last : ℕ) → is_line (rest ++ (last ∷ [])) ≡ (all_digits rest && eqb last 10)
+line_split rest last =
+    line-by (rest ++ (last ∷ [])) (length rest) (simp length-append (omega arith))
+    ∙ rw (take-append_seam rest (last ∷ []), get_or-append_seam rest last [] 0)
 
 -- a headed text is of one of the four kinds
 pub headed_kind : (s : List ℕ) → is_headed s ≡ true → OfFour (kind s)
@@ -237,7 +244,7 @@ module _ (s : List ℕ) (f : Fields) (h : readable s ≡ true) (e : f ≡ fields
   read-few = rw (e, count-told) (few-read s h)
 
   -- the fields that the form tells, where the rules hold, are the frame's
-  pub read-frame : obeys (message_of f) ≡ true → record { refusal = 0; fields = f } ≡ answer (reading s)
+  pub read-frame : obeys (message_of f) ≡ true → Ok f ≡ answer (reading s)
   unfolding answer reading is_frame readable
   read-frame o = rw (and_left (shaped s) _ h, rw tells at o, e)
 

@@ -1,8 +1,9 @@
 -- The struct that the code has for a message, and what it stands for. Assumes nothing.
-use Rattle.std.specs.Prelude.{ℕ, zero, suc, Bool, ◌&&◌, ◌||◌, List, [], ◌∷◌, eqb, ltb, leb, length, get_or}
+use Rattle.std.specs.Prelude.{ℕ, zero, suc, Bool, ◌&&◌, ◌||◌, List, [], ◌∷◌, eqb, ltb, leb, length, get_or, Result, Ok, Err}
 use Rattle.frames.specs.declared.Entry.{Entry}
 use Rattle.frames.specs.declared.Fields.{Fields}
-use Rattle.frames.specs.declared.Parsed.{Parsed}
+use Rattle.frames.specs.declared.refusal.Refusal.{Refusal}
+use Rattle.frames.specs.declared.refusal.Refusal.TheVariants.{NotAFrame}
 use Rattle.frames.specs.Limits.{entry_limit}
 use Rattle.frames.specs.Message.{Message, vote_request, vote_answer, append, append_answer, by_kind}
 use Rattle.frames.specs.Rules.{obeys}
@@ -61,11 +62,7 @@ one_frame f =
     leb f.count entry_limit && leb 1 f.kind && leb f.kind 4 && obeys (message_of f)
     && fields_unused f && entries_unused f.count f.entries
 
--- The reader's answer as the code gives it: 0 and the fields, or 1 and none.
-abbrev pub no_fields : Fields
-no_fields =
-    record { kind = 0; from = 0; to = 0; term = 0; index = 0; prior = 0; commit = 0; reply = 0; count = 0; entries = places [] }
-
-unfoldable pub answer : Reading → Parsed
-answer (frame m) = record { refusal = 0; fields = fields_of m }
-answer refused = record { refusal = 1; fields = no_fields }
+-- The reader's answer as the code gives it.
+unfoldable pub answer : Reading → Result Fields Refusal
+answer (frame m) = Ok (fields_of m)
+answer refused = Err NotAFrame

@@ -1,6 +1,8 @@
 -- What is proved of a frame's rules and fields, for the code's proofs and for 'one spelling'. Assumes nothing.
-use Rattle.std.specs.Prelude.{ℕ, zero, suc, ◌+◌, ◌-◌, ◌≤◌, ◌<◌, ◌≡◌, refl, true, false, List, [], ◌∷◌, leb, length, get_or}
+use Rattle.std.specs.Prelude.{ℕ, zero, suc, ◌+◌, ◌-◌, ◌≤◌, ◌<◌, ◌≡◌, refl, true, false, List, [], ◌∷◌, leb, length, get_or, take, drop}
 use Rattle.std.proofs.Common.{add-one, arith, ap, ◌∙◌, ne_eqb}
+use Rattle.std.proofs.Math.Seq.{drop-cons}
+use Rattle.std.proofs.lemmas.List.{drop_more, drop_all}
 use Rattle.frames.specs.declared.Entry.{Entry}
 use Rattle.frames.specs.Message.{Message, vote_request, vote_answer, append, append_answer, by_kind}
 use Rattle.frames.specs.Rules.{follows, in_order}
@@ -83,21 +85,30 @@ listed_end es i n h = ap (listed es i) done
     done : n - i ≡ 0
     done = omega arith
 
+-- entries from the first on are the front of the list
+pub listed-take : (es : List Entry) (n : ℕ) → n ≤ length es → listed es 0 n ≡ take n es
+unfolding listed
+listed-take es n l = from 0 n (omega arith)
+  where
+    from : (at n : ℕ) → at + n ≤ length es → listed es at n ≡ take n (drop at es)
+    from at zero l = refl
+    from at (suc n) l = rw (drop-cons es at no_entry (omega arith)) (ap (λ (r : List Entry). get_or es at no_entry ∷ r) (from (suc at) n (omega arith)))
+
 -- ---- the entry rule over what is left
 
--- an entry that follows leaves the rule to those behind it
-pub in_order-next : (es : List Entry) (i n last term : ℕ) → i < n → follows last term (get_or es i no_entry).term ≡ true
-    → in_order last term (listed es i (n - i)) ≡ in_order (get_or es i no_entry).term term (listed es (i + 1) (n - (i + 1)))
-unfolding in_order
-in_order-next es i n last term h f = rw (listed_next es i n h, f)
+module _ (es : List Entry) (i last term : ℕ) where
+  -- an entry that follows leaves the rule to those behind it
+  pub in_order-next : i < length es → follows last term (get_or es i no_entry).term ≡ true
+      → in_order last term (drop i es) ≡ in_order (get_or es i no_entry).term term (drop (i + 1) es)
+  unfolding in_order
+  in_order-next h f = rw (drop_more es i no_entry h, f)
 
--- one that does not breaks it
-pub in_order-broken : (es : List Entry) (i n last term : ℕ) → i < n → follows last term (get_or es i no_entry).term ≡ false
-    → in_order last term (listed es i (n - i)) ≡ false
-unfolding in_order
-in_order-broken es i n last term h f = rw (listed_next es i n h, f)
+  -- one that does not breaks it
+  pub in_order-broken : i < length es → follows last term (get_or es i no_entry).term ≡ false → in_order last term (drop i es) ≡ false
+  unfolding in_order
+  in_order-broken h f = rw (drop_more es i no_entry h, f)
 
--- and behind the last it asks that no term is above the message's
-pub in_order_end : (es : List Entry) (i n last term : ℕ) → n ≤ i → in_order last term (listed es i (n - i)) ≡ leb last term
-unfolding in_order
-in_order_end es i n last term h = rw (listed_end es i n h)
+  -- and behind the last it asks that no term is above the message's
+  pub in_order_end : length es ≤ i → in_order last term (drop i es) ≡ leb last term
+  unfolding in_order
+  in_order_end h = rw (drop_all i es h)

@@ -1,6 +1,6 @@
 -- A refusal's number tells it: no two have one, and none has 0. So a promise of the number is a promise of the refusal.
-use Rattle.std.specs.Prelude.{ℕ, ◌≡◌, Bool, false, cond, eqb}
-use Rattle.std.proofs.Common.{refl, sym, ap, ◌∙◌}
+use Rattle.std.specs.Prelude.{ℕ, ◌≡◌, false, cond, eqb, Result, Ok, Err}
+use Rattle.std.proofs.Common.{arith, refl, sym, ap, ◌∙◌}
 use Rattle.frames.specs.declared.refusal.Refusal.{Refusal}
 use Rattle.frames.specs.declared.refusal.Refusal.TheVariants.{NotAFrame, NotForThisBox, NotLeader, LogFull, NoRoom, SecondLeader, CutsCommitted, PastLog, LastTerm, BadLine, NoHead, BadRecord, BlankOrder}
 use Rattle.frames.specs.Refusal.{number}
@@ -42,3 +42,34 @@ named_number BlankOrder = refl
 
 pub one_number : (r s : Refusal) → number r ≡ number s → r ≡ s
 one_number r s e = sym (named_number r) ∙ ap named e ∙ named_number s
+
+-- ---- an answer is one of its two cases, and tells what it holds
+
+module _ {A : Type 0} where
+  value_or : A → Result A Refusal → A
+  value_or x (Ok y) = y
+  value_or x (Err r) = x
+
+  error_or : Refusal → Result A Refusal → Refusal
+  error_or x (Ok y) = x
+  error_or x (Err r) = r
+
+  case_of : Result A Refusal → ℕ
+  case_of (Ok y) = 0
+  case_of (Err r) = 1
+
+  pub ok_is : {x y : A} → ◌≡◌ {A = Result A Refusal} (Ok x) (Ok y) → x ≡ y
+  unfolding value_or
+  ok_is {x} e = ap (value_or x) e
+
+  pub err_is : {r s : Refusal} → ◌≡◌ {A = Result A Refusal} (Err r) (Err s) → r ≡ s
+  unfolding error_or
+  err_is {r} e = ap (error_or r) e
+
+  pub ok_not_err : {x : A} {r : Refusal} → ◌≡◌ {A = Result A Refusal} (Ok x) (Err r) → ⊥
+  unfolding case_of
+  ok_not_err e = omega (arith, ap case_of e)
+
+  pub err_not_ok : {x : A} {r : Refusal} → ◌≡◌ {A = Result A Refusal} (Err r) (Ok x) → ⊥
+  unfolding case_of
+  err_not_ok e = omega (arith, ap case_of e)

@@ -1,7 +1,8 @@
 -- What is proved of writing: fields one behind the other, the line feed, and how long a frame is. Assumes nothing.
-use Rattle.std.specs.Prelude.{ℕ, zero, suc, ◌+◌, ◌*◌, ◌≤◌, ◌<◌, ◌≡◌, true, false, ◌&&◌, List, [], ◌∷◌, ◌++◌, leb, length, get_or, set}
+use Rattle.std.specs.Prelude.{ℕ, zero, suc, ◌+◌, ◌*◌, ◌≤◌, ◌<◌, ◌≡◌, true, false, ◌&&◌, List, [], ◌∷◌, ◌++◌, leb, length, get_or, set, take, Ok, Err}
 use Rattle.std.proofs.Common.{add-zero, zero-add, add-suc, suc-add, add-one, arith, sym, ap, ◌∙◌, append_assoc, append-nil, length-append, take-append-drop}
 use Rattle.std.proofs.Math.Path.{refl}
+use Rattle.std.proofs.lemmas.List.{take_more, length-take-le}
 use Rattle.std.proofs.lemmas.List.Edits.{sets-eq}
 use borrow.Author.Tests.{leb-true, lt-leb, le-leb}
 use Rattle.digits.specs.Digits.{spelt}
@@ -10,12 +11,13 @@ use Rattle.digits.specs.Room.{over}
 use Rattle.digits.specs.RoomLaws.{over-over}
 use Rattle.frames.specs.declared.Entry.{Entry}
 use Rattle.frames.specs.declared.Fields.{Fields}
+use Rattle.frames.specs.declared.refusal.Refusal.TheVariants.{NotAFrame, NoRoom}
 use Rattle.frames.specs.Limits.{entry_limit}
 use Rattle.frames.specs.Message.{Message, vote_request, vote_answer, append, append_answer, by_kind, Field, width, value, entry_fields, table, spell, text}
 use Rattle.frames.specs.Rules.{obeys}
 use Rattle.frames.specs.Reading.{size, text_size}
 use Rattle.frames.specs.Fields.{no_entry, listed, message_of, fields_unused, entries_unused, one_frame}
-use Rattle.frames.specs.Writing.{written}
+use Rattle.frames.specs.Writing.{Wrote, written}
 use Rattle.frames.specs.Clauses.{four, zeros}
 use Rattle.frames.specs.Laws.{at-kind, kind_of, count_of, length-listed}
 
@@ -77,10 +79,6 @@ unfolding listed
 listed_suc es at zero = rw add-zero
 listed_suc es at (suc n) = rw (listed_suc es (suc at) n, suc-add at n, add-suc at n)
 
--- the same, as the code counts
-pub listed_more : (es : List Entry) (n : ℕ) → listed es 0 (n + 1) ≡ listed es 0 n ++ (get_or es n no_entry ∷ [])
-listed_more es n = rw (add-one n, listed_suc es 0 n, zero-add)
-
 -- entries and entries behind them have their fields so
 pub entry_fields-append : (a b : List Entry) → entry_fields (a ++ b) ≡ entry_fields a ++ entry_fields b
 unfolding entry_fields
@@ -93,20 +91,19 @@ unfolding entry_fields
 chars-entries [] = refl
 chars-entries (e ∷ es) = omega (arith, chars-entries es)
 
--- and so for the entries up to a place
-pub chars-listed : (es : List Entry) (n : ℕ) → chars (entry_fields (listed es 0 n)) ≡ 24 * n
-chars-listed es n = rw (chars-entries, length-listed)
-
 -- the entries up to a place are written: then the next
-pub put-entry-next : (d : List ℕ) {d₁ d₂ : List ℕ} (at : ℕ) (es : List Entry) (n : ℕ) → at + 24 * n + 24 ≤ length d
-    → d₁ ≡ over d at (spell (entry_fields (listed es 0 n)))
+pub put-entry-next : (d : List ℕ) {d₁ d₂ : List ℕ} (at : ℕ) (es : List Entry) (n : ℕ) → n < length es → at + 24 * length es ≤ length d
+    → d₁ ≡ over d at (spell (entry_fields (take n es)))
     → d₂ ≡ over d₁ (at + 24 * n) (spell (entry_fields (get_or es n no_entry ∷ [])))
-    → d₂ ≡ over d at (spell (entry_fields (listed es 0 (n + 1))))
-put-entry-next d {d₁} at es n h p q =
-    rw (listed_more es n, entry_fields-append (listed es 0 n) (get_or es n no_entry ∷ []))
-    (put_more d at (entry_fields (listed es 0 n)) (entry_fields (get_or es n no_entry ∷ []))
-    (omega (arith, chars-listed es n, chars-entries (get_or es n no_entry ∷ [])))
-    p (q ∙ ap (λ (k : ℕ). over d₁ (at + k) (spell (entry_fields (get_or es n no_entry ∷ [])))) (sym (chars-listed es n))))
+    → d₂ ≡ over d at (spell (entry_fields (take (n + 1) es)))
+put-entry-next d {d₁} at es n i h p q =
+    rw (take_more es n no_entry i, entry_fields-append (take n es) (get_or es n no_entry ∷ []))
+    (put_more d at (entry_fields (take n es)) (entry_fields (get_or es n no_entry ∷ []))
+    (omega (arith, long, chars-entries (get_or es n no_entry ∷ [])))
+    p (q ∙ ap (λ (k : ℕ). over d₁ (at + k) (spell (entry_fields (get_or es n no_entry ∷ [])))) (sym long)))
+  where
+    long : chars (entry_fields (take n es)) ≡ 24 * n
+    long = chars-entries (take n es) ∙ ap (λ (k : ℕ). 24 * k) (length-take-le n es (omega arith))
 
 -- ---- how long a frame is
 
@@ -180,22 +177,20 @@ module _ (f : Fields) (h : one_frame f ≡ true) where
 
 -- ---- the writer's answers
 
--- fields that are not one frame: 1
-pub written-not : (f : Fields) (d : List ℕ) → one_frame f ≡ false
-    → record { answer = record { refusal = 1; bytes = 0 }; room = d } ≡ written f d
+-- fields that are not one frame
+pub written-not : (f : Fields) (d : List ℕ) → one_frame f ≡ false → ◌≡◌ {A = Wrote} (record { answer = Err NotAFrame; room = d }) (written f d)
 unfolding written
 written-not f d h = rw h
 
 module _ (f : Fields) (d : List ℕ) (h : one_frame f ≡ true) where
-  -- room that is too short: 5
-  pub written-short : length d < text_size (size f.kind f.count)
-      → record { answer = record { refusal = 5; bytes = 0 }; room = d } ≡ written f d
+  -- room that is too short
+  pub written-short : length d < text_size (size f.kind f.count) → ◌≡◌ {A = Wrote} (record { answer = Err NoRoom; room = d }) (written f d)
   unfolding written
   written-short l = rw (h, lt-leb (length (text (message_of f))) (length d) (omega (arith, text-bytes f h)))
 
   -- otherwise the frame
   pub written-whole : {n : ℕ} {d₁ : List ℕ} → text_size (size f.kind f.count) ≤ length d → n ≡ text_size (size f.kind f.count)
-      → d₁ ≡ over d 0 (text (message_of f)) → record { answer = record { refusal = 0; bytes = n }; room = d₁ } ≡ written f d
+      → d₁ ≡ over d 0 (text (message_of f)) → ◌≡◌ {A = Wrote} (record { answer = Ok n; room = d₁ }) (written f d)
   unfolding written
   written-whole l e w =
       rw (h, le-leb (length (text (message_of f))) (length d) (omega (arith, text-bytes f h)), e, w, text-bytes f h)

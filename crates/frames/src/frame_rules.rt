@@ -50,21 +50,17 @@ fn follows(last: u32, term: u32, next: u32) -> bool
     (last <= term) & (1 <= next) & (last <= next)
 }
 
-// The entry rule over the first count entries: "previous term and the entry terms never fall, entry terms at least 1, none of them, previous
-// term included, above term". (An inside call: the journal's lines have the same rule.)
-pub fn in_order(entries: [Entry; Fields::ENTRIES], count: usize, previous: u32, term: u32) -> bool
-    requires { count ≤ entry_limit }
-    ensures { result ≡ in_order previous term (listed entries 0 count) }
+// The entry rule: "previous term and the entry terms never fall, entry terms at least 1, none of them, previous term included, above term".
+// (An inside call: the journal's lines have the same rule.)
+pub fn in_order(entries: &[Entry], previous: u32, term: u32) -> bool
+    ensures { result ≡ in_order previous term entries.now }
 {
     let mut last = previous;
-    let mut i = 0;
-    while i < count {
-        let e = entries[i];
+    for e in entries {
         if !follows(last, term, e.term) {
             return false;
         }
         last = e.term;
-        i += 1;
     }
     last <= term
 }
@@ -92,14 +88,13 @@ fn is_append(f: Fields) -> bool
     ensures { result ≡ obeys (append f.from f.to f.term f.index f.prior f.commit (listed f.entries 0 f.count)) }
 {
     let count = f.count;
-    let entries = f.entries;
     is_start(f.from, f.to, f.term)
         & is_index(f.index)
         & is_pair(f.index, f.prior)
         & is_index(f.commit)
         & (count as usize <= Fields::ENTRIES)
         & (f.index as u32 + count as u32 <= Fields::LOG as u32)
-        & in_order(entries, count as usize, f.prior, f.term)
+        & in_order(&f.entries[..count as usize], f.prior, f.term)
 }
 
 // "Kind 4: a no names index 0."
@@ -113,21 +108,17 @@ fn is_append_answer(f: Fields) -> bool
 }
 
 // The rules of the fields' kind. (An inside call, of the reader: it knows that the entries are at most four.)
+#[tactic(auto, unfolding(crate::specs::Message::by_kind))]
 pub fn obeys(f: Fields) -> bool
     requires { f.count ≤ entry_limit }
     ensures { result ≡ obeys (message_of f) }
 {
-    let kind = f.kind;
-    if kind == 1 {
-        return is_vote_request(f);
+    match f.kind {
+        Fields::VOTE_REQUEST => is_vote_request(f),
+        Fields::VOTE_ANSWER => is_vote_answer(f),
+        Fields::APPEND => is_append(f),
+        _ => is_append_answer(f),
     }
-    if kind == 2 {
-        return is_vote_answer(f);
-    }
-    if kind == 3 {
-        return is_append(f);
-    }
-    is_append_answer(f)
 }
 
 // An entry past the count is 0.
@@ -149,34 +140,23 @@ fn entries_unused(f: Fields) -> bool
 }
 
 // A field that the kind does not have is 0.
+#[tactic(auto, unfolding(crate::specs::Message::by_kind))]
 fn fields_unused(f: Fields) -> bool
     ensures { result ≡ fields_unused f }
 {
-    let kind = f.kind;
-    if kind == 1 {
-        return (f.commit == 0) & (f.reply == 0) & (f.count == 0);
+    match f.kind {
+        Fields::VOTE_REQUEST => (f.commit == 0) & (f.reply == 0) & (f.count == 0),
+        Fields::VOTE_ANSWER => (f.index == 0) & (f.prior == 0) & (f.commit == 0) & (f.count == 0),
+        Fields::APPEND => f.reply == 0,
+        _ => (f.prior == 0) & (f.commit == 0) & (f.count == 0),
     }
-    if kind == 2 {
-        return (f.index == 0) & (f.prior == 0) & (f.commit == 0) & (f.count == 0);
-    }
-    if kind == 3 {
-        return f.reply == 0;
-    }
-    (f.prior == 0) & (f.commit == 0) & (f.count == 0)
 }
 
 // The fields are one frame: at most four entries, a kind of the four, the rules of the kind, and nothing that the kind does not have.
+#[tactic(auto, unfolding(crate::specs::Fields::one_frame))]
 pub fn is_frame(f: Fields) -> bool
     ensures { result ≡ one_frame f }
 {
-    let count = f.count;
-    if Fields::ENTRIES < count as usize {
-        return false;
-    }
-    (count as usize <= Fields::ENTRIES)
-        & (1 <= f.kind)
-        & (f.kind <= 4)
-        & obeys(f)
-        & fields_unused(f)
-        & entries_unused(f)
+    (f.count as usize <= Fields::ENTRIES)
+        && (1 <= f.kind) & (f.kind <= 4) & obeys(f) & fields_unused(f) & entries_unused(f)
 }

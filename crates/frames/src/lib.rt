@@ -18,6 +18,7 @@ pub struct Entry {
 
 // The fields of a message of any of the four kinds. What a kind does not have is 0:
 // index is the last, previous or named index; prior the last or previous term.
+// Kind and yes stay numbers: `frame_writer::write` answers `NotAFrame` for any fields whatever, and C may hand over any number.
 #[derive(Clone, Copy)]
 pub struct Fields {
     pub kind: u8,
@@ -32,7 +33,26 @@ pub struct Fields {
     pub entries: [Entry; Fields::ENTRIES],
 }
 
+impl Entry {
+    // What stands where there is no entry.
+    pub const NONE: Entry = Entry { term: 0, order: 0 };
+}
+
 impl Fields {
+    // What each kind's own fields are put into.
+    pub const NONE: Fields = Fields {
+        kind: 0,
+        from: 0,
+        to: 0,
+        term: 0,
+        index: 0,
+        prior: 0,
+        commit: 0,
+        reply: 0,
+        count: 0,
+        entries: [Entry::NONE; Fields::ENTRIES],
+    };
+
     // 01's limits: boxes 1 to 7, a log of 256 entries, 4 entries a frame.
     pub const BOXES: u8 = 7;
 
@@ -51,18 +71,4 @@ impl Fields {
     pub const APPEND: u8 = 3;
 
     pub const APPEND_ANSWER: u8 = 4;
-}
-
-// The reader's answer: refusal 0 and the fields, or 1 and zeros.
-#[derive(Clone, Copy)]
-pub struct Parsed {
-    pub refusal: u8,
-    pub fields: Fields,
-}
-
-// The writer's answer: refusal 0 and how many bytes it wrote, or 1 or 5 and 0.
-#[derive(Clone, Copy)]
-pub struct Written {
-    pub refusal: u8,
-    pub bytes: usize,
 }

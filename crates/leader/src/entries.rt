@@ -19,7 +19,6 @@ pub fn adding(n: Record, terms: &[u32], orders: &[u64]) -> Decision
     let next = ordered(n, terms, orders);
     let send = Send::Appends;
     Decision {
-        refusal: 0,
         next,
         kept: n.last,
         first: 0,

@@ -1,12 +1,10 @@
 -- What an append comes to, case by case, and the decision that adds entries. Assumes nothing.
-use Rattle.std.specs.Prelude.{ℕ, zero, suc, ◌+◌, ◌-◌, ◌≤◌, ◌<◌, min, ◌≡◌, true, false, List, [], ◌∷◌, ◌++◌, length, drop}
-use Rattle.std.proofs.Common.{add-zero, zero-add, add-suc, suc-add, arith, ◌∙◌}
-use Rattle.std.proofs.Math.Nat.{sub-zero, zero-sub, suc-sub-suc}
+use Rattle.std.specs.Prelude.{ℕ, ◌+◌, ◌-◌, ◌≤◌, ◌<◌, min, ◌≡◌, true, false, List, [], ◌∷◌, ◌++◌, length, drop, slice_range}
+use Rattle.std.proofs.Common.{arith, ◌∙◌, take_all, length-drop}
 use Rattle.std.proofs.Math.Path.{sym, ap}
 use borrow.Author.Tests.{eq-eqb, ne_eqb, lt-ltb, le-ltb}
 use Rattle.frames.specs.declared.Entry.{Entry}
 use Rattle.frames.specs.Fields.{listed}
-use Rattle.frames.specs.Laws.{length-listed}
 use Rattle.frames.specs.Message.{append_answer}
 use Rattle.record.specs.declared.Record.{Record}
 use Rattle.record.specs.declared.Send.{Send}
@@ -19,6 +17,7 @@ use Rattle.raft.proofs.JoinLaws.{stop-most, stop-offered, joined_same, joined-cu
 use Rattle.record.specs.Calls.{entries_of, with_entries, state_of}
 use Rattle.record.specs.Deciding.{messages_of, decided, Aimed, Decides, Becomes}
 use Rattle.record.specs.DecidingLaws.{becomes_lent}
+use Rattle.rules.specs.SliceLaws.{listed-slice}
 use Rattle.messages.specs.Required.{Offered}
 
 -- ---- before the search
@@ -43,24 +42,19 @@ module _ (s : State) (from index prior commit : ℕ) (es : List Entry) where
 -- ---- the search's place
 
 -- the listed entries from a place on
-listed-drop : (es : List Entry) (at n k : ℕ) → drop k (listed es at n) ≡ listed es (at + k) (n - k)
-unfolding listed
-listed-drop es at n zero = rw (add-zero, sub-zero)
-listed-drop es at zero (suc k) = rw zero-sub
-listed-drop es at (suc n) (suc k) = listed-drop es (suc at) n k ∙ rw (suc-sub-suc, suc-add at k, ← add-suc at k)
+drop-listed : (es : List Entry) (k : ℕ) → drop k es ≡ listed es k (length es - k)
+unfolding slice_range
+drop-listed es k = sym (listed-slice es k (length es) (omega arith) ∙ take_all _ _ (omega (arith, length-drop k es)))
 
-module _ (b : Record) (terms orders : List ℕ) (from index commit : ℕ) (all : List Entry) (count place : ℕ)
-    (found : place ≡ stop (entries_of terms orders 0 b.last) index (listed all 0 count)) (f : Record) (becomes : Becomes b f following)
-    (k : ℕ) (settled : k ≡ commit_after b.commit commit (index + count)) where
+module _ (b : Record) (terms orders : List ℕ) (from index commit : ℕ) (es : List Entry) (place : ℕ)
+    (found : place ≡ stop (entries_of terms orders 0 b.last) index es) (f : Record) (becomes : Becomes b f following)
+    (k : ℕ) (settled : k ≡ commit_after b.commit commit (index + length es)) where
   abbrev s : State
   s = state_of b terms orders
 
-  abbrev es : List Entry
-  es = listed all 0 count
-
   -- what the box becomes, with a log
   abbrev pub accepting : List Entry → State
-  accepting log = as_follower (with_commit (commit_after b.commit commit (index + count)) (with_log log s))
+  accepting log = as_follower (with_commit (commit_after b.commit commit (index + length es)) (with_log log s))
 
   -- the follower's struct, with that commit
   follows_with : (log : List Entry) → with_commit k (with_log log (state_of f terms orders)) ≡ accepting log
@@ -71,34 +65,31 @@ module _ (b : Record) (terms orders : List ℕ) (from index commit : ℕ) (all :
   unfolding following
   follows = ap (with_commit k) (becomes_lent becomes terms orders) ∙ rw settled
 
-  long : length es ≡ count
-  long = length-listed all 0 count
-
   pub place-least : index ≤ place
   unfolding stop
   place-least = omega (arith, found)
 
-  pub place-most : place ≤ index + count
-  place-most = omega (arith, found, stop-offered s.log index es, long)
+  pub place-most : place ≤ index + length es
+  place-most = omega (arith, found, stop-offered s.log index es)
 
   place-agreed : agreed (drop index s.log) es ≡ place - index
   unfolding stop
   place-agreed = omega (arith, found)
 
   -- all is held
-  passed : place ≡ index + count → passes s.log index es ≡ true
+  passed : place ≡ index + length es → passes s.log index es ≡ true
   unfolding stop passes
-  passed h = eq-eqb (agreed (drop index s.log) es) (length es) (omega (arith, found, h, long))
+  passed h = eq-eqb (agreed (drop index s.log) es) (length es) (omega (arith, found, h))
 
-  pub accept-held : place ≡ index + count
-      → done (with_commit k (state_of f terms orders)) (append_answer f.me from f.term 1 (index + count) ∷ []) ≡ accept s from index commit es
+  pub accept-held : place ≡ index + length es
+      → done (with_commit k (state_of f terms orders)) (append_answer f.me from f.term 1 (index + length es) ∷ []) ≡ accept s from index commit es
   unfolding cuts_committed joining
-  accept-held h = ap (λ (x : State). done x (append_answer x.me from x.term 1 (index + count) ∷ [])) follows ∙ rw (passed h, joined_same s.log index es (passed h), long)
+  accept-held h = ap (λ (x : State). done x (append_answer x.me from x.term 1 (index + length es) ∷ [])) follows ∙ rw (passed h, joined_same s.log index es (passed h))
 
-  module _ (h : place ≡ index + count → ⊥) where
+  module _ (h : place ≡ index + length es → ⊥) where
     more : passes s.log index es ≡ false
     unfolding stop passes
-    more = ne_eqb (agreed (drop index s.log) es) (length es) (λ p. h (omega (arith, found, p, long)))
+    more = ne_eqb (agreed (drop index s.log) es) (length es) (λ p. h (omega (arith, found, p)))
 
     -- a cut at or below commit: 7
     pub accept_alarm : place < b.commit → refuse 7 ≡ accept s from index commit es
@@ -113,33 +104,34 @@ module _ (b : Record) (terms orders : List ℕ) (from index commit : ℕ) (all :
       place_inside = omega (arith, found, stop-most s.log index es inside, length-entries_of terms orders 0 b.last)
 
       -- the joined log is what is kept and what is new
-      added-log : entries_of terms orders 0 place ++ listed all (place - index) (count - (place - index)) ≡ joined s.log index es
+      added-log : entries_of terms orders 0 place ++ listed es (place - index) (length es - (place - index)) ≡ joined s.log index es
       added-log =
           sym
           (joined-cut s.log index es more
-          ∙ rw (place-agreed, listed-drop all 0 count (place - index), zero-add, ← found, take-entries terms orders 0 b.last place, least))
+          ∙ rw (place-agreed, drop-listed es (place - index), ← found, take-entries terms orders 0 b.last place, least))
         where
           least : min place b.last ≡ place
           least = omega (arith, place_inside)
 
       -- Entries are added: the decision for it.
-      pub accept-adds : (next : Record) (end : ℕ) → end ≡ index + count → Offered b index count terms → b.commit ≤ place → next.last ≡ end
+      pub accept-adds : (next : Record) (end : ℕ) → end ≡ index + length es → Offered b index (length es) terms → b.commit ≤ place → next.last ≡ end
           → ((log : List Entry) → with_entries next log ≡ with_commit k (with_log log (state_of f terms orders)))
           → Decides b.last
-          (record { refusal = 0; next = next; kept = place; first = place - index; count = count; send = Send.AppendAnswer from 1 end })
-          all terms orders (accept s from index commit es)
+          (record { next = next; kept = place; first = place - index; count = length es; send = Send.AppendAnswer from 1 end })
+          es terms orders (accept s from index commit es)
       unfolding decided messages_of Aimed cuts_committed joining
       accept-adds next end e o c l with-log-of =
           record {
             comes =
                 ap (λ (x : State). done x (append_answer x.me from x.term 1 end ∷ []))
-                (with-log-of (entries_of terms orders 0 place ++ listed all (place - index) (count - (place - index)))
-                ∙ follows_with (entries_of terms orders 0 place ++ listed all (place - index) (count - (place - index))))
-                ∙ rw (added-log, more, ← found, le-ltb place b.commit c, long, e);
+                (with-log-of (entries_of terms orders 0 place ++ listed es (place - index) (length es - (place - index)))
+                ∙ follows_with (entries_of terms orders 0 place ++ listed es (place - index) (length es - (place - index))))
+                ∙ rw (added-log, more, ← found, le-ltb place b.commit c, e);
             low = place_inside;
             part = omega (arith, place-most);
             few = o.few;
             there = omega (arith, place-least);
+            held = omega arith;
             sum = omega (arith, l, e, place-least, place-most);
             room = omega (arith, l, e, o.room);
             told = ap (kept s.log) added-log ∙ kept-joined s.log index es inside more ∙ sym found;

@@ -1,5 +1,5 @@
 -- Any message and any bytes: what the struct of fields says, its term, its kind, and whom it is for. Assumes nothing.
-use Rattle.std.specs.Prelude.{ℕ, ◌+◌, ◌≤◌, ◌<◌, ◌≡◌, Bool, cond, ◌&&◌, eqb}
+use Rattle.std.specs.Prelude.{ℕ, ◌+◌, ◌≤◌, ◌<◌, ◌≡◌, Bool, cond, ◌&&◌, eqb, Result, Ok, Err}
 use Rattle.std.proofs.Common.{arith, ◌∙◌}
 use Rattle.std.proofs.Math.Path.{refl, ap}
 use Rattle.std.proofs.Math.Bool.{true, false}
@@ -8,7 +8,8 @@ use borrow.Author.Tests.{ne_eqb, lt-ltb, le-ltb}
 use Rattle.digits.specs.Tests.{and_left, and_right}
 use Rattle.frames.specs.declared.Entry.{Entry}
 use Rattle.frames.specs.declared.Fields.{Fields}
-use Rattle.frames.specs.declared.Parsed.{Parsed}
+use Rattle.frames.specs.declared.refusal.Refusal.{Refusal}
+use Rattle.frames.specs.declared.refusal.Refusal.TheVariants.{NotAFrame}
 use Rattle.frames.specs.Limits.{IsBox, log_limit, entry_limit}
 use Rattle.frames.specs.Message.{Message, vote_request, vote_answer, append, append_answer, by_kind}
 use Rattle.frames.specs.Rules.{is_box, is_index, is_pair, is_start, obeys}
@@ -17,6 +18,8 @@ use Rattle.frames.specs.Fields.{listed, message_of, fields_of, one_frame, answer
 use Rattle.frames.specs.Clauses.{four}
 use Rattle.frames.specs.Laws.{kind_1, kind_2, kind_3, kind_4, length-listed}
 use Rattle.frames.specs.WritingLaws.{whole}
+use Rattle.frames.specs.Refusal.{number}
+use Rattle.frames.specs.RefusalLaws.{ok_is, err_is, ok_not_err, err_not_ok}
 use Rattle.frames.proofs.ReadingLaws.{message_told, obeys-few}
 use Rattle.frames.proofs.OneSpelling.{frame_exactly, one_frame-of}
 use Rattle.record.specs.declared.Record.{Record}
@@ -32,8 +35,8 @@ use Rattle.raft.specs.AppendAnswer.{on_append_answer}
 use Rattle.raft.specs.Receive.{sender, receiver, term_of, stale, current, deliver, is_for, arrive, arrive_read, receive}
 use Rattle.raft.proofs.ReceiveLaws.{Offers, offer-facts, taken-keeps, taken-term, good-taken}
 use Rattle.record.specs.Calls.{state_of}
-use Rattle.record.specs.Deciding.{Becomes, Decides}
-use Rattle.record.specs.DecidingLaws.{becomes_lent, becomes_ready, decides_at}
+use Rattle.record.specs.Deciding.{Becomes, DecidesOrRefuses}
+use Rattle.record.specs.DecidingLaws.{becomes_lent, becomes_ready, answers_at}
 use Rattle.record.specs.GoodLaws.{ready-good, ready-last}
 use Rattle.messages.specs.Required.{Lent, Offered, From, Read, Delivered, InTerm}
 
@@ -205,34 +208,33 @@ module _ {b : Record} {f : Fields} {terms orders : List ℕ} where
         }
 
 -- what the record with the term taken decides, the box decides
-pub taken-decides : (b t : Record) (f : Fields) (terms orders : List ℕ) {d : Decision} {offered : List Entry} → Becomes b t (taken f.term)
-    → b.term ≤ f.term → Decides t.last d offered terms orders (current (message_of f) (state_of t terms orders))
-    → Decides b.last d offered terms orders (deliver (message_of f) (state_of b terms orders))
-taken-decides b t f terms orders e h k =
-    decides_at e.last (deliver-taken f (state_of b terms orders) h (state_of t terms orders) (becomes_lent e terms orders)) k
+pub taken-decides : (b t : Record) (f : Fields) (terms orders : List ℕ) (r : Result Decision Refusal) {offered : List Entry}
+    → Becomes b t (taken f.term) → b.term ≤ f.term
+    → DecidesOrRefuses t.last r offered terms orders (current (message_of f) (state_of t terms orders))
+    → DecidesOrRefuses b.last r offered terms orders (deliver (message_of f) (state_of b terms orders))
+taken-decides b t f terms orders r e h k =
+    answers_at r _ terms orders e.last (deliver-taken f (state_of b terms orders) h (state_of t terms orders) (becomes_lent e terms orders)) k
 
 -- ---- any bytes
 
-module _ (bytes : List ℕ) (p : Parsed) (e : p ≡ answer (reading bytes)) where
-  -- no frame: 1
-  pub read-not : p.refusal ≡ 1 → (s : State) → refuse 1 ≡ receive bytes s
-  unfolding receive arrive_read answer
-  read-not h s = go (reading bytes) refl
-    where
-      go : (r : Reading) → reading bytes ≡ r → refuse 1 ≡ arrive_read (reading bytes) s
-      go (frame m) q = absurd (omega (arith, h, ap (λ (x : Parsed). x.refusal) e ∙ ap (λ (x : Reading). (answer x).refusal) q))
-      go refused q = rw q
+-- no frame: 1
+pub read-not : (bytes : List ℕ) (r : Refusal) → Err r ≡ answer (reading bytes) → (s : State) → refuse (number r) ≡ receive bytes s
+unfolding receive arrive_read answer
+read-not bytes r e s = go (reading bytes) refl
+  where
+    go : (x : Reading) → reading bytes ≡ x → refuse (number r) ≡ arrive_read (reading bytes) s
+    go (frame m) q = absurd (err_not_ok (rw q at e))
+    go refused q = rw (err_is (rw q at e), q)
 
-  -- a frame: its fields
-  pub read-frame : (p.refusal ≡ 1 → ⊥)
-      → (one_frame p.fields ≡ true) × ((s : State) → arrive (message_of p.fields) s ≡ receive bytes s)
-  unfolding receive arrive_read answer
-  read-frame h = go (reading bytes) refl
-    where
-      go : (r : Reading) → reading bytes ≡ r
-          → (one_frame p.fields ≡ true) × ((s : State) → arrive (message_of p.fields) s ≡ arrive_read (reading bytes) s)
-      go (frame m) q =
-          let o = (frame_exactly bytes m q).0 in
-          let fields : p.fields ≡ fields_of m = ap (λ (x : Parsed). x.fields) e ∙ ap (λ (x : Reading). (answer x).fields) q in
-          (rw fields (one_frame-of m o), λ s. rw (fields, q, message_told m (obeys-few m o)))
-      go refused q = absurd (h (ap (λ (x : Parsed). x.refusal) e ∙ ap (λ (x : Reading). (answer x).refusal) q))
+-- a frame: its fields
+pub read-frame : (bytes : List ℕ) (f : Fields) → Ok f ≡ answer (reading bytes)
+    → (one_frame f ≡ true) × ((s : State) → arrive (message_of f) s ≡ receive bytes s)
+unfolding receive arrive_read answer
+read-frame bytes f e = go (reading bytes) refl
+  where
+    go : (x : Reading) → reading bytes ≡ x → (one_frame f ≡ true) × ((s : State) → arrive (message_of f) s ≡ arrive_read (reading bytes) s)
+    go (frame m) q =
+        let o = (frame_exactly bytes m q).0 in
+        let fields : f ≡ fields_of m = ok_is (rw q at e) in
+        (rw fields (one_frame-of m o), λ s. rw (fields, q, message_told m (obeys-few m o)))
+    go refused q = absurd (ok_not_err (rw q at e))

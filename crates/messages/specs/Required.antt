@@ -3,7 +3,7 @@ use Rattle.std.specs.Prelude.{ℕ, ◌+◌, ◌≤◌, ◌≡◌, true, cond, Li
 use Rattle.std.proofs.Common.{eq-eqb, ne_eqb}
 use Rattle.frames.specs.declared.Entry.{Entry}
 use Rattle.frames.specs.declared.Fields.{Fields}
-use Rattle.frames.specs.Fields.{one_frame}
+use Rattle.frames.specs.Fields.{listed, one_frame}
 use Rattle.frames.specs.Limits.{log_limit, entry_limit}
 use Rattle.raft.specs.Order.{blank}
 use Rattle.record.specs.declared.Record.{Record}
@@ -48,13 +48,13 @@ pub record InTerm (b : Record) (f : Fields) (terms orders : List ℕ) : Type 0 w
 
 -- The entries that a message may add: a vote answer's is the blank of its term, for the box that it makes a leader; an append's are its own.
 unfoldable pub brought : Fields → List Entry
-brought f = cond (eqb f.kind 2) (one_entry f.term blank) f.entries
+brought f = cond (eqb f.kind 2) (one_entry f.term blank) (listed f.entries 0 f.count)
 
 -- What each kind brings.
 pub brings_blank : (f : Fields) → f.kind ≡ 2 → brought f ≡ one_entry f.term blank
 unfolding brought
 brings_blank f k = rw (eq-eqb f.kind 2 k)
 
-pub brings_own : (f : Fields) → (f.kind ≡ 2 → ⊥) → brought f ≡ f.entries
+pub brings_own : (f : Fields) → (f.kind ≡ 2 → ⊥) → brought f ≡ listed f.entries 0 f.count
 unfolding brought
 brings_own f k = rw (ne_eqb f.kind 2 k)

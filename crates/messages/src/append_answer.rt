@@ -4,10 +4,11 @@ ghost use Rattle.frames.specs.declared.Entry.{Entry};
 ghost use Rattle.frames.specs.Limits.{IsBox};
 ghost use Rattle.raft.specs.AppendAnswer.{sends_again, on_append_answer};
 ghost use Rattle.record.specs.Calls.{state_of};
-ghost use Rattle.record.specs.Deciding.{Decides};
+ghost use Rattle.record.specs.Deciding.{DecidesOrRefuses};
 ghost use Rattle.messages.specs.Required.{From};
 
-use changes::{refuse, step};
+use changes::step;
+use frames::Refusal;
 use leader::{heard, settled};
 use record::{Decision, Record, Send};
 
@@ -29,21 +30,21 @@ pub fn append_answer(
     index: u16,
     terms: &[u32],
     orders: &[u64],
-) -> Decision
+) -> Result<Decision, Refusal>
     requires { From t from terms.now orders.now }
-    ensures { (offered : List Entry) → Decides t.last result offered terms.now orders.now
+    ensures { (offered : List Entry) → DecidesOrRefuses t.last result offered terms.now orders.now
         (on_append_answer (state_of t terms.now orders.now) from reply index) }
 {
     if t.role != Record::LEADER {
-        return step(t, Send::Nothing);
+        return Ok(step(t, Send::Nothing));
     }
     if (reply == 1) & (t.last < index) {
-        return refuse(t, 8);
+        return Err(Refusal::PastLog);
     }
     let next = settled(heard(t, from, reply, index), terms, orders);
     if sends_again(next, from, reply) {
         let again = Send::Append { to: from };
-        return step(next, again);
+        return Ok(step(next, again));
     }
-    step(next, Send::Nothing)
+    Ok(step(next, Send::Nothing))
 }

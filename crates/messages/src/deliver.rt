@@ -5,15 +5,15 @@ ghost use Rattle.frames.specs.Fields.{message_of};
 ghost use Rattle.frames.specs.Limits.{IsBox, log_limit};
 ghost use Rattle.raft.specs.Receive.{is_for, stale, current, deliver, arrive};
 ghost use Rattle.record.specs.Calls.{state_of};
-ghost use Rattle.record.specs.Deciding.{Decides};
+ghost use Rattle.record.specs.Deciding.{Decides, DecidesOrRefuses};
 ghost use Rattle.messages.specs.Required.{Read, Delivered, InTerm, brought};
 
 use crate::append::append;
 use crate::append_answer::append_answer;
 use crate::vote_answer::vote_answer;
 use crate::vote_request::vote_request;
-use changes::{refuse, step, taken};
-use frames::Fields;
+use changes::{step, taken};
+use frames::{Fields, Refusal};
 use record::{Decision, Record, Send};
 
 // "A lower term: a request gets a no with the box's own term; an answer does nothing."
@@ -22,53 +22,44 @@ fn stale(n: Record, f: Fields) -> Decision
     ensures { (offered : List Entry) (terms orders : List ℕ) →
         Decides n.last result offered terms orders (stale (message_of f) (state_of n terms orders)) }
 {
-    let kind = f.kind;
     let to = f.from;
-    if kind == Fields::VOTE_REQUEST {
-        let no = Send::VoteAnswer { to, reply: 0 };
-        return step(n, no);
-    }
-    if kind == Fields::APPEND {
-        let no = Send::AppendAnswer {
+    let send = match f.kind {
+        Fields::VOTE_REQUEST => Send::VoteAnswer { to, reply: 0 },
+        Fields::APPEND => Send::AppendAnswer {
             to,
             reply: 0,
             index: 0,
-        };
-        return step(n, no);
-    }
-    step(n, Send::Nothing)
+        },
+        _ => Send::Nothing,
+    };
+    step(n, send)
 }
 
 // Its kind, at a box that is in the message's term.
-fn current(t: Record, f: Fields, terms: &[u32], orders: &[u64]) -> Decision
+fn current(t: Record, f: Fields, terms: &[u32], orders: &[u64]) -> Result<Decision, Refusal>
     requires { InTerm t f terms.now orders.now }
-    ensures { Decides t.last result (brought f) terms.now orders.now
+    ensures { DecidesOrRefuses t.last result (brought f) terms.now orders.now
         (current (message_of f) (state_of t terms.now orders.now)) }
 {
-    let kind = f.kind;
-    if kind == Fields::VOTE_REQUEST {
-        return vote_request(t, f.from, f.index, f.prior, terms);
+    match f.kind {
+        Fields::VOTE_REQUEST => Ok(vote_request(t, f.from, f.index, f.prior, terms)),
+        Fields::VOTE_ANSWER => Ok(vote_answer(t, f.from, f.reply, terms, orders)),
+        Fields::APPEND => {
+            let entries = &f.entries[..f.count as usize];
+            append(t, f.from, f.index, f.prior, f.commit, entries, terms)
+        }
+        _ => append_answer(t, f.from, f.reply, f.index, terms, orders),
     }
-    if kind == Fields::VOTE_ANSWER {
-        return vote_answer(t, f.from, f.reply, terms, orders);
-    }
-    if kind == Fields::APPEND {
-        let entries = f.entries;
-        return append(
-            t, f.from, f.index, f.prior, f.commit, entries, f.count, terms,
-        );
-    }
-    append_answer(t, f.from, f.reply, f.index, terms, orders)
 }
 
 // "with a higher term: take that term, .., then go on as below."
-fn deliver(n: Record, f: Fields, terms: &[u32], orders: &[u64]) -> Decision
+fn deliver(n: Record, f: Fields, terms: &[u32], orders: &[u64]) -> Result<Decision, Refusal>
     requires { Delivered n f terms.now orders.now }
-    ensures { Decides n.last result (brought f) terms.now orders.now
+    ensures { DecidesOrRefuses n.last result (brought f) terms.now orders.now
         (deliver (message_of f) (state_of n terms.now orders.now)) }
 {
     if f.term < n.term {
-        return stale(n, f);
+        return Ok(stale(n, f));
     }
     current(taken(n, f.term), f, terms, orders)
 }
@@ -82,13 +73,13 @@ fn is_for(n: Record, from: u8, to: u8) -> bool
 }
 
 // 2, or what the message comes to.
-pub fn arrive(n: Record, f: Fields, terms: &[u32], orders: &[u64]) -> Decision
+pub fn arrive(n: Record, f: Fields, terms: &[u32], orders: &[u64]) -> Result<Decision, Refusal>
     requires { Read n f terms.now orders.now }
-    ensures { Decides n.last result (brought f) terms.now orders.now
+    ensures { DecidesOrRefuses n.last result (brought f) terms.now orders.now
         (arrive (message_of f) (state_of n terms.now orders.now)) }
 {
     if !is_for(n, f.from, f.to) {
-        return refuse(n, 2);
+        return Err(Refusal::NotForThisBox);
     }
     deliver(n, f, terms, orders)
 }

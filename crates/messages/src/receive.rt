@@ -3,8 +3,8 @@ ghost use Rattle.raft.specs.Event.{step, receives};
 ghost use Rattle.record.specs.Calls.{state_of, Ready, Runs};
 
 use crate::deliver::arrive;
-use finishing::{finish_adding, finish_one, refused};
-use frames::Fields;
+use finishing::{finish_adding, finish_one};
+use frames::{Fields, Refusal};
 use record::{Record, Step};
 
 // 1 where they are not one frame; 2 where it is not for this box; and then what its kind decides, finished: a vote answer with the blank, should it win.
@@ -15,18 +15,14 @@ pub fn run_bytes(
     orders: &mut [u64],
     journal: &mut [u8],
     messages: &mut [u8],
-) -> Step
+) -> Result<Step<Record>, Refusal>
     requires { Ready n terms.old orders.old }
     ensures { Runs (step (receives bytes.now) (state_of n terms.old orders.old)) n
         terms.old orders.old journal.old messages.old result
         terms.new orders.new journal.new messages.new }
 {
-    let parsed = frame_reader::read(bytes);
-    if parsed.refusal == 1 {
-        return refused(n, 1);
-    }
-    let fields = parsed.fields;
-    let d = arrive(n, fields, &terms[..], &orders[..]);
+    let fields = frame_reader::read(bytes)?;
+    let d = arrive(n, fields, &terms[..], &orders[..])?;
     if fields.kind == Fields::VOTE_ANSWER {
         return finish_one(
             n,
@@ -39,6 +35,6 @@ pub fn run_bytes(
             messages,
         );
     }
-    let offered = fields.entries;
+    let offered = &fields.entries[..fields.count as usize];
     finish_adding(n, d, offered, terms, orders, journal, messages)
 }

@@ -13,15 +13,12 @@ use Rattle.raft.specs.Outcome.{done}
 use Rattle.raft.specs.Event.{Event, step}
 use Rattle.raft.proofs.EventLaws.{step-good}
 use Rattle.raft.specs.Exactly.{Exactly}
-use Rattle.record.specs.declared.Handed.{Handed}
-use Rattle.record.specs.Calls.{state_of, Called, Begun, handed}
+use Rattle.record.specs.Calls.{state_of, Called, Begun, HandedTold, handed}
 use Rattle.record.specs.ExactlyWhen.{Asked, left_by, Answers}
 use Rattle.record.specs.ExactlyWhenLaws.{refusal-untouched}
 use Rattle.record.specs.NextRecord.{Leaves, call-leaves, handed_are, begun_fresh}
 use Rattle.node.specs.declared.Node.{Node}
-use Rattle.node.specs.declared.Started.{Started}
-use Rattle.node.specs.declared.Answer.{Answer}
-use Rattle.node.specs.Outside.{Starts, Calls}
+use Rattle.node.specs.Outside.{Answer, Started, Starts, Calls}
 
 -- The record of a box and a lent log.
 abbrev pub record_in : Node → List ℕ → List ℕ → State
@@ -100,8 +97,8 @@ started-fresh me mask journal r journal' c z =
     (begun_fresh me mask journal (sym (ap (λ (x : Begun). x.answer.refusal) c) ∙ z)).is
 
 -- **So many entries of the lent log as are counted are handed out.**
-pub hands_out : (n : Node) (terms orders : List ℕ) (r : Handed) → r ≡ handed n.state terms orders → r.refusal ≡ 0
+pub hands_out : (n : Node) (terms orders : List ℕ) (r : HandedTold) → r ≡ handed n.state terms orders → r.refusal ≡ 0
     → entries_of terms orders 0 r.count ≡ handed_out (record_in n terms orders)
 hands_out n terms orders r c z =
-    ap (λ (x : Handed). entries_of terms orders 0 x.count) c
-    ∙ handed_are n.state terms orders (sym (ap (λ (x : Handed). x.refusal) c) ∙ z)
+    ap (λ (x : HandedTold). entries_of terms orders 0 x.count) c
+    ∙ handed_are n.state terms orders (sym (ap (λ (x : HandedTold). x.refusal) c) ∙ z)

@@ -1,14 +1,17 @@
 // A box: a constructor and one method for each event, on any record and any bytes. The log is lent by the caller, as terms and orders, entry i at place i-1.
 #![tactic(auto)]
 
-ghost use Rattle.std.specs.Prelude.{◌≡◌};
+ghost use Rattle.std.specs.Prelude.{◌≡◌, List, ℕ, ◌≤◌, length};
+ghost use Rattle.frames.specs.Limits.{log_limit};
 ghost use Rattle.raft.specs.Event.{times_out, takes_order, is_prompted, receives};
 ghost use Rattle.raft.specs.Record.{fresh};
-ghost use Rattle.record.specs.Calls.{record_of, handed};
-ghost use Rattle.node.specs.Outside.{Starts, Calls};
+ghost use Rattle.record.specs.Calls.{record_of, handed, handed_told};
+ghost use Rattle.node.specs.Outside.{told, start_told, Starts, Calls};
+ghost use Rattle.node.specs.LookLaws.{Looks};
 
 use changes::is_good;
-use record::{Handed, Record, Step};
+use frames::Refusal;
+use record::{Record, Started, Step};
 
 // The box.
 #[derive(Clone, Copy)]
@@ -16,32 +19,13 @@ pub struct Node {
     pub state: Record,
 }
 
-// A start's answer: 01's number, the box, and how many bytes of head were written.
-#[derive(Clone, Copy)]
-pub struct Started {
-    pub node: Node,
-    pub bytes: usize,
-    pub refusal: u8,
-}
-
-// A step's answer: 01's number, the next box, and how many bytes of journal line and messages were written.
-#[derive(Clone, Copy)]
-pub struct Answer {
-    pub node: Node,
-    pub line: usize,
-    pub sent: usize,
-    pub refusal: u8,
-}
-
-// A step's answer, with the box around its record.
-fn boxed(done: Step) -> Answer
-    ensures { result ≡ record { refusal = done.refusal; node = record { state = done.state }; line = done.line; sent = done.sent } }
+// A step that is done, with the box around its record.
+fn boxed(done: Step<Record>) -> Step<Node>
+    ensures { result ≡ record { next = record { state = done.next }; line = done.line; sent = done.sent } }
 {
-    let state = done.state;
-    let node = Node { state };
-    Answer {
-        refusal: done.refusal,
-        node,
+    let next = Node { state: done.next };
+    Step {
+        next,
         line: done.line,
         sent: done.sent,
     }
@@ -64,16 +48,26 @@ impl Node {
     }
 
     // Starts a box: 12 exactly when its number or mask is bad, 5 exactly when the room is too short for the head.
-    pub fn start(me: u8, mask: u8, journal: &mut [u8]) -> Started
-        ensures { Starts me mask journal.old result journal.new }
+    pub fn start(me: u8, mask: u8, journal: &mut [u8]) -> Result<Started<Node>, Refusal>
+        ensures { Starts me mask journal.old (start_told result) journal.new }
     {
-        let started = events::start(me, mask, journal);
-        let state = started.state;
-        let node = Node { state };
-        Started {
-            refusal: started.refusal,
-            node,
+        let started = events::start(me, mask, journal)?;
+        let fresh = Node { state: started.fresh };
+        Ok(Started {
+            fresh,
             bytes: started.bytes,
+        })
+    }
+
+    // 12 where the box's record breaks a rule.
+    fn look(self, terms: &[u32]) -> Result<(), Refusal>
+        requires { length terms.now ≡ log_limit }
+        ensures { (orders : List ℕ) → Looks result self.state terms.now orders }
+    {
+        if is_good(self.state, terms) {
+            Ok(())
+        } else {
+            Err(Refusal::BadRecord)
         }
     }
 
@@ -84,15 +78,13 @@ impl Node {
         orders: &mut [u64; Node::LOG],
         journal: &mut [u8],
         messages: &mut [u8],
-    ) -> Answer
-        ensures { Calls times_out self terms.old orders.old journal.old messages.old result
+    ) -> Result<Step<Node>, Refusal>
+        ensures { Calls times_out self terms.old orders.old journal.old messages.old (told self result)
             terms.new orders.new journal.new messages.new }
     {
+        self.look(&terms[..])?;
         let n = self.state;
-        if !is_good(n, &terms[..]) {
-            return boxed(finishing::refused(n, 12));
-        }
-        boxed(events::run_timeout(n, terms, orders, journal, messages))
+        Ok(boxed(events::run_timeout(n, terms, orders, journal, messages)?))
     }
 
     // "Order (leader). Entry with the current term, then an append to each other member."
@@ -103,15 +95,13 @@ impl Node {
         orders: &mut [u64; Node::LOG],
         journal: &mut [u8],
         messages: &mut [u8],
-    ) -> Answer
-        ensures { Calls (takes_order order) self terms.old orders.old journal.old messages.old result
+    ) -> Result<Step<Node>, Refusal>
+        ensures { Calls (takes_order order) self terms.old orders.old journal.old messages.old (told self result)
             terms.new orders.new journal.new messages.new }
     {
+        self.look(&terms[..])?;
         let n = self.state;
-        if !is_good(n, &terms[..]) {
-            return boxed(finishing::refused(n, 12));
-        }
-        boxed(events::run_order(n, order, terms, orders, journal, messages))
+        Ok(boxed(events::run_order(n, order, terms, orders, journal, messages)?))
     }
 
     // "Prompt (leader): an append to each."
@@ -121,15 +111,13 @@ impl Node {
         orders: &[u64; Node::LOG],
         journal: &mut [u8],
         messages: &mut [u8],
-    ) -> Answer
-        ensures { Calls is_prompted self terms.now orders.now journal.old messages.old result
+    ) -> Result<Step<Node>, Refusal>
+        ensures { Calls is_prompted self terms.now orders.now journal.old messages.old (told self result)
             terms.now orders.now journal.new messages.new }
     {
+        self.look(terms)?;
         let n = self.state;
-        if !is_good(n, terms) {
-            return boxed(finishing::refused(n, 12));
-        }
-        boxed(events::run_prompt(n, terms, orders, journal, messages))
+        Ok(boxed(events::run_prompt(n, terms, orders, journal, messages)?))
     }
 
     // A frame's bytes, or any others: 1 where they are not one frame, 2 where it is not for this box, and then 01's rules for its kind.
@@ -140,31 +128,19 @@ impl Node {
         orders: &mut [u64; Node::LOG],
         journal: &mut [u8],
         messages: &mut [u8],
-    ) -> Answer
-        ensures { Calls (receives bytes.now) self terms.old orders.old journal.old messages.old result
+    ) -> Result<Step<Node>, Refusal>
+        ensures { Calls (receives bytes.now) self terms.old orders.old journal.old messages.old (told self result)
             terms.new orders.new journal.new messages.new }
     {
+        self.look(&terms[..])?;
         let n = self.state;
-        if !is_good(n, &terms[..]) {
-            return boxed(finishing::refused(n, 12));
-        }
-        boxed(messages::run_bytes(n, bytes, terms, orders, journal, messages))
+        Ok(boxed(messages::run_bytes(n, bytes, terms, orders, journal, messages)?))
     }
 
     // "Handed out: entries 1 to commit": how many of the lent log's entries.
-    pub fn handed_out(self, terms: &[u32; Node::LOG], orders: &[u64; Node::LOG]) -> Handed
-        ensures { result ≡ handed self.state terms.now orders.now }
+    pub fn handed_out(self, terms: &[u32; Node::LOG], orders: &[u64; Node::LOG]) -> Result<u16, Refusal>
+        ensures { handed_told result ≡ handed self.state terms.now orders.now }
     {
-        let n = self.state;
-        if !is_good(n, terms) {
-            return Handed {
-                refusal: 12,
-                count: 0,
-            };
-        }
-        Handed {
-            refusal: 0,
-            count: n.commit,
-        }
+        self.look(terms).and(Ok(self.state.commit))
     }
 }

@@ -1,14 +1,15 @@
 -- The calls: the struct that the code has for a record, the log and the room that the caller lends, and what a call leaves in each.
 -- Assumes nothing.
-use Rattle.std.specs.Prelude.{ℕ, ◌≡◌, Bool, true, cond, ◌&&◌, List, leb, length}
+use Rattle.std.specs.Prelude.{ℕ, ◌≡◌, Bool, true, cond, ◌&&◌, List, leb, length, Result, Ok, Err}
 use Rattle.digits.specs.Room.{over}
 use Rattle.frames.specs.declared.Entry.{Entry}
 use Rattle.frames.specs.Limits.{log_limit}
 use Rattle.frames.specs.Message.{Message}
+use Rattle.frames.specs.declared.refusal.Refusal.{Refusal}
+use Rattle.frames.specs.Refusal.{number}
 use Rattle.record.specs.declared.Record.{Record}
 use Rattle.record.specs.declared.Step.{Step}
 use Rattle.record.specs.declared.Started.{Started}
-use Rattle.record.specs.declared.Handed.{Handed}
 use Rattle.raft.specs.Record.{State, fresh, is_membership, good}
 use Rattle.raft.specs.Sends.{texts}
 use Rattle.raft.specs.Journal.{head, journaled}
@@ -54,9 +55,21 @@ record_of s =
 
 -- ---- a step
 
+-- A step's answer as 01 has it: its number, the next record, and how many bytes of line and messages.
+pub record StepTold : Type 0 where
+  pub refusal : ℕ
+  pub state : Record
+  pub line : ℕ
+  pub sent : ℕ
+
+-- The number and the values of what a step at a record answers: what is done is 0; a refusal is its number, and the record as it was.
+abbrev pub told : Record → Result (Step Record) Refusal → StepTold
+told b (Ok s) = record { refusal = 0; state = s.next; line = s.line; sent = s.sent }
+told b (Err r) = record { refusal = number r; state = b; line = 0; sent = 0 }
+
 -- What a call answers, and everything that was lent, as the call leaves it.
 pub record Called : Type 0 where
-  pub answer : Step
+  pub answer : StepTold
   pub terms : List ℕ
   pub orders : List ℕ
   pub journal : List ℕ
@@ -103,10 +116,10 @@ call e b terms orders journal messages =
 -- ---- as the contracts say it: the lent things before, the answer, and the lent things behind it
 
 -- On a record that is known to be good the call leaves what an outcome comes to.
-abbrev pub Runs : Outcome → Record → (terms orders journal messages : List ℕ) → Step → (terms' orders' journal' messages' : List ℕ) → Type 0
+abbrev pub Runs : Outcome → Record → (terms orders journal messages : List ℕ) → Result (Step Record) Refusal → (terms' orders' journal' messages' : List ℕ) → Type 0
 Runs o b terms orders journal messages answer terms' orders' journal' messages' =
     ◌≡◌ {A = Called}
-    (record { answer = answer; terms = terms'; orders = orders'; journal = journal'; messages = messages' })
+    (record { answer = told b answer; terms = terms'; orders = orders'; journal = journal'; messages = messages' })
     (run o b terms orders journal messages)
 
 -- What such a call requires: the log is lent whole, and the record is good.
@@ -119,8 +132,17 @@ pub record Ready (b : Record) (terms orders : List ℕ) : Type 0 where
 
 -- Starting. 12: "bad box or mask"; then 5; otherwise the fresh box, and the head at the room's start. Whoever is refused gets no box:
 -- the struct holds zeros, which every event answers with 12.
+pub record StartTold : Type 0 where
+  pub refusal : ℕ
+  pub state : Record
+  pub bytes : ℕ
+
+abbrev pub start_told : Result (Started Record) Refusal → StartTold
+start_told (Ok s) = record { refusal = 0; state = s.fresh; bytes = s.bytes }
+start_told (Err r) = record { refusal = number r; state = record_of (fresh 0 0); bytes = 0 }
+
 pub record Begun : Type 0 where
-  pub answer : Started
+  pub answer : StartTold
   pub journal : List ℕ
 
 unfoldable pub begun : ℕ → ℕ → List ℕ → Begun
@@ -135,6 +157,14 @@ begun me mask journal =
     (record { answer = record { refusal = 12; state = record_of (fresh 0 0); bytes = 0 }; journal = journal })
 
 -- "Handed out: entries 1 to commit": how many of the lent log's entries, or 12.
-unfoldable pub handed : Record → List ℕ → List ℕ → Handed
+pub record HandedTold : Type 0 where
+  pub refusal : ℕ
+  pub count : ℕ
+
+abbrev pub handed_told : Result ℕ Refusal → HandedTold
+handed_told (Ok n) = record { refusal = 0; count = n }
+handed_told (Err r) = record { refusal = number r; count = 0 }
+
+unfoldable pub handed : Record → List ℕ → List ℕ → HandedTold
 handed b terms orders =
     cond (good (state_of b terms orders)) (record { refusal = 0; count = b.commit }) (record { refusal = 12; count = 0 })

@@ -1,9 +1,11 @@
 -- What a decision says: the outcome that it stands for, and what whoever writes it down relies on. Assumes nothing.
-use Rattle.std.specs.Prelude.{ℕ, ◌+◌, ◌-◌, ◌≤◌, ◌≡◌, Bool, true, cond, List, [], ◌∷◌, ◌++◌, eqb, length}
+use Rattle.std.specs.Prelude.{ℕ, ◌+◌, ◌-◌, ◌≤◌, ◌≡◌, Bool, true, List, [], ◌∷◌, ◌++◌, length, Result, MatchResult}
 use Rattle.frames.specs.declared.Entry.{Entry}
-use Rattle.frames.specs.Fields.{no_entry, listed}
+use Rattle.frames.specs.Fields.{listed}
 use Rattle.frames.specs.Limits.{IsBox, log_limit, entry_limit}
 use Rattle.frames.specs.Message.{Message, vote_answer, append_answer}
+use Rattle.frames.specs.declared.refusal.Refusal.{Refusal}
+use Rattle.frames.specs.Refusal.{number}
 use Rattle.record.specs.declared.Record.{Record}
 use Rattle.record.specs.declared.Send.{Send}
 use Rattle.record.specs.declared.Decision.{Decision}
@@ -23,9 +25,9 @@ messages_of (Send.Append to) t = append_to t to ∷ []
 messages_of (Send.VoteAnswer to reply) t = vote_answer t.me to t.term reply ∷ []
 messages_of (Send.AppendAnswer to reply index) t = append_answer t.me to t.term reply index ∷ []
 
--- What is offered may be one entry, in the first of four places: a client's order, or a new leader's blank.
+-- What is offered may be one entry: a client's order, or a new leader's blank.
 unfoldable pub one_entry : (term order : ℕ) → List Entry
-one_entry term order = record { term = term; order = order } ∷ no_entry ∷ no_entry ∷ no_entry ∷ []
+one_entry term order = record { term = term; order = order } ∷ []
 
 -- The next record's log: the entries that are kept, and behind them those of the offered ones that are new.
 abbrev pub new_of : Decision → List Entry → List Entry
@@ -39,8 +41,7 @@ after d offered terms orders = with_entries d.next (log_after d offered terms or
 
 -- The outcome.
 unfoldable pub decided : Decision → List Entry → List ℕ → List ℕ → Outcome
-decided d offered terms orders =
-    cond (eqb d.refusal 0) (done (after d offered terms orders) (messages_of d.send (after d offered terms orders))) (refuse d.refusal)
+decided d offered terms orders = done (after d offered terms orders) (messages_of d.send (after d offered terms orders))
 
 -- Another member.
 pub record OtherBox (b : Record) (i : ℕ) : Type 0 where
@@ -63,10 +64,15 @@ pub record Decides (last : ℕ) (d : Decision) (offered : List Entry) (terms ord
   pub part : d.first ≤ d.count
   pub few : d.count ≤ entry_limit
   pub there : d.first ≤ d.kept
+  pub held : d.count ≤ length offered
   pub sum : d.next.last ≡ d.kept + (d.count - d.first)
   pub room : d.next.last ≤ log_limit
   pub told : kept (entries_of terms orders 0 last) (log_after d offered terms orders) ≡ d.kept
   pub aimed : Aimed d.send d.next
+
+-- An event that decides, or refuses: its decision stands for the outcome, or its refusal is the outcome.
+abbrev pub DecidesOrRefuses : ℕ → Result Decision Refusal → List Entry → List ℕ → List ℕ → Outcome → Type 0
+DecidesOrRefuses last r offered terms orders o = MatchResult r (λ d. Decides last d offered terms orders o) (λ e. refuse (number e) ≡ o)
 
 -- What whoever finishes a step relies on: the log is lent whole, the decision stands for its outcome, and the next record is good.
 pub record Sound (n : Record) (d : Decision) (offered : List Entry) (terms orders : List ℕ) : Type 0 where
@@ -74,7 +80,7 @@ pub record Sound (n : Record) (d : Decision) (offered : List Entry) (terms order
   pub orders_long : length orders ≡ log_limit
   pub last : n.last ≤ log_limit
   pub decides : Decides n.last d offered terms orders (decided d offered terms orders)
-  pub next_good : d.refusal ≡ 0 → Good (after d offered terms orders)
+  pub next_good : Good (after d offered terms orders)
 
 -- The same where no entry is added.
 pub record AddsNone (n : Record) (d : Decision) (terms orders : List ℕ) : Type 0 where

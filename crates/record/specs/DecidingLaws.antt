@@ -1,13 +1,18 @@
 -- How a decision comes to stand for an outcome. Assumes nothing.
 use Rattle.std.specs.Prelude.{ℕ, ◌+◌, ◌-◌, ◌≤◌, ◌<◌, ◌≡◌}
-use Rattle.std.proofs.Common.{arith, sym, ap, ◌∙◌, subst, eq-eqb, ne_eqb}
+use Rattle.std.specs.Prelude.{Result, Ok, Err, IsErrAnd}
+use Rattle.std.proofs.lemmas.Result.{err_from_is_err_and}
+use Rattle.std.proofs.Common.{arith, sym, ap, ◌∙◌, subst}
 use mathlib.Core.List.{List, [], ◌∷◌, ◌++◌, append-nil}
 use Rattle.frames.specs.declared.Entry.{Entry}
 use Rattle.frames.specs.Fields.{listed}
 use Rattle.frames.specs.Limits.{log_limit}
+use Rattle.frames.specs.declared.refusal.Refusal.{Refusal}
+use Rattle.frames.specs.Refusal.{number}
 use Rattle.record.specs.declared.Record.{Record}
 use Rattle.record.specs.declared.Send.{Send}
 use Rattle.record.specs.declared.Decision.{Decision}
+use Rattle.record.specs.declared.Step.{Step}
 use Rattle.raft.specs.Record.{State}
 use Rattle.raft.proofs.RecordLaws.{Good, good-facts, facts-good}
 use Rattle.raft.specs.Journal.{kept}
@@ -17,19 +22,15 @@ use Rattle.raft.specs.Outcome.{Outcome, done, refuse}
 use Rattle.raft.specs.Event.{Event, step}
 use Rattle.raft.proofs.EventLaws.{step-good}
 use Rattle.raft.specs.LentLaws.{length-entries_of}
-use Rattle.record.specs.Calls.{entries_of, with_entries, state_of, run, Ready}
-use Rattle.record.specs.Deciding.{messages_of, one_entry, after, decided, Aimed, Decides, Sound, Becomes}
+use Rattle.record.specs.Calls.{entries_of, with_entries, state_of, run, Runs, Ready}
+use Rattle.record.specs.Deciding.{messages_of, one_entry, after, decided, Aimed, Decides, DecidesOrRefuses, Sound, Becomes}
 use Rattle.record.specs.GoodLaws.{ready-last}
 
 -- ---- a step that leaves the log alone
 
--- The decision for it,
+-- The decision for it.
 abbrev pub plain : Record → Send → Decision
-plain next send = record { refusal = 0; next = next; kept = next.last; first = 0; count = 0; send = send }
-
--- and for a refusal.
-abbrev pub refusing : Record → ℕ → Decision
-refusing b number = record { refusal = number; next = b; kept = b.last; first = 0; count = 0; send = Send.Nothing }
+plain next send = record { next = next; kept = next.last; first = 0; count = 0; send = send }
 
 module _ (b : Record) (offered : List Entry) (terms orders : List ℕ) where
   -- nothing is added
@@ -53,27 +54,16 @@ module _ (b : Record) (offered : List Entry) (terms orders : List ℕ) where
         part = omega arith;
         few = omega arith;
         there = omega arith;
+        held = omega arith;
         sum = omega arith;
         room = l;
         told = same-told;
         aimed = a;
       }
 
-  pub refuse-decides : (number : ℕ) {o : Outcome} → b.last ≤ log_limit → 1 ≤ number → refuse number ≡ o
-      → Decides b.last (refusing b number) offered terms orders o
-  unfolding decided Aimed
-  refuse-decides number l h e =
-      record {
-        comes = rw (ne_eqb number 0 (omega arith)) e;
-        low = omega arith;
-        part = omega arith;
-        few = omega arith;
-        there = omega arith;
-        sum = omega arith;
-        room = l;
-        told = same-told;
-        aimed = tt;
-      }
+  -- a refusal is the outcome that it is
+  pub refuse-decides : (r : Refusal) {o : Outcome} → refuse (number r) ≡ o → DecidesOrRefuses b.last (Err r) offered terms orders o
+  refuse-decides r e = e
 
 -- and so where the next record's log is as long
 pub changed-decides : (b next : Record) (offered : List Entry) (terms orders : List ℕ) (send : Send) {o : Outcome} → next.last ≡ b.last
@@ -93,6 +83,7 @@ decides_as k e =
       part = k.part;
       few = k.few;
       there = k.there;
+      held = k.held;
       sum = k.sum;
       room = k.room;
       told = k.told;
@@ -104,6 +95,17 @@ pub decides_at : {last last' : ℕ} {d : Decision} {offered : List Entry} {terms
     → Decides last d offered terms orders o → Decides last' d offered terms orders o'
 decides_at {last} {last'} {d} {offered} {terms} {orders} {o} {o'} l e k =
     subst (λ (n : ℕ). Decides n d offered terms orders o') l (decides_as k e)
+
+-- also where it may be refused,
+pub answers_at : {last last' : ℕ} (r : Result Decision Refusal) (offered : List Entry) (terms orders : List ℕ) {o o' : Outcome} → last ≡ last' → o ≡ o'
+    → DecidesOrRefuses last r offered terms orders o → DecidesOrRefuses last' r offered terms orders o'
+answers_at (Ok d) offered terms orders l e k = decides_at l e k
+answers_at (Err r) offered terms orders l e k = k ∙ e
+
+pub answers_as : (last : ℕ) (r : Result Decision Refusal) (offered : List Entry) (terms orders : List ℕ) {o o' : Outcome}
+    → DecidesOrRefuses last r offered terms orders o → o ≡ o' → DecidesOrRefuses last r offered terms orders o'
+answers_as last (Ok d) offered terms orders k e = decides_as k e
+answers_as last (Err r) offered terms orders k e = k ∙ e
 
 -- or the term of the entry that is offered is the same.
 pub decides-term : (order : ℕ) {last term term' : ℕ} {d : Decision} {terms orders : List ℕ} {o : Outcome} → term ≡ term'
@@ -123,15 +125,26 @@ module _ {n : Record} {d : Decision} {offered : List Entry} {terms orders : List
         orders_long = r.orders_long;
         last = ready-last r;
         decides = decides_as k (sym k.comes);
-        next_good = λ h. good-facts (after d offered terms orders)
+        next_good = good-facts (after d offered terms orders)
             (step-good e (state_of n terms orders) r.rules (after d offered terms orders)
-            (messages_of d.send (after d offered terms orders)) (sym k.comes ∙ rw (eq-eqb d.refusal 0 h)));
+            (messages_of d.send (after d offered terms orders)) (sym k.comes));
       }
 
   -- and what it leaves is what the step leaves.
   pub finished : (journal messages : List ℕ)
       → run (decided d offered terms orders) n terms orders journal messages ≡ run (step e (state_of n terms orders)) n terms orders journal messages
   finished journal messages = rw k.comes
+
+-- What is refused leaves all as it was.
+pub refusal-leaves : (n : Record) (r : Refusal) {terms orders journal messages : List ℕ} {o : Outcome} → refuse (number r) ≡ o
+    → Runs o n terms orders journal messages (Err r) terms orders journal messages
+unfolding run
+refusal-leaves n r e = rw (← e)
+
+-- So does a function that hands a refusal on, by `?`.
+pub exit-leaves : (n : Record) (r : Refusal) {terms orders journal messages : List ℕ} {o : Outcome} (answer : Result (Step Record) Refusal)
+    → IsErrAnd answer (λ e. e ≡ r) → refuse (number r) ≡ o → Runs o n terms orders journal messages answer terms orders journal messages
+exit-leaves n r answer exits e = let p = err_from_is_err_and answer exits in rw (p.1, p.2) (refusal-leaves n r e)
 
 -- ---- a change of a struct, on the lent log
 
@@ -153,7 +166,7 @@ becomes_ready {terms} {orders} k r g =
 pub order-decides : (b next : Record) (terms orders : List ℕ) (term order : ℕ) {o : Outcome} → b.last < log_limit → next.last ≡ b.last + 1
     → done (with_entries next (entries_of terms orders 0 b.last ++ (record { term = term; order = order } ∷ [])))
     (appends (with_entries next (entries_of terms orders 0 b.last ++ (record { term = term; order = order } ∷ [])))) ≡ o
-    → Decides b.last (record { refusal = 0; next = next; kept = b.last; first = 0; count = 1; send = Send.Appends }) (one_entry term order) terms orders o
+    → Decides b.last (record { next = next; kept = b.last; first = 0; count = 1; send = Send.Appends }) (one_entry term order) terms orders o
 unfolding decided messages_of Aimed one_entry listed
 order-decides b next terms orders term order l e g =
     record {
@@ -162,6 +175,7 @@ order-decides b next terms orders term order l e g =
       part = omega arith;
       few = omega arith;
       there = omega arith;
+      held = omega arith;
       sum = e;
       room = omega arith;
       told = kept_more (entries_of terms orders 0 b.last) (record { term = term; order = order } ∷ []) ∙ length-entries_of terms orders 0 b.last;

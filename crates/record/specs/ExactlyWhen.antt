@@ -4,6 +4,7 @@
 use Rattle.std.specs.Prelude.{ℕ, ◌≡◌, Bool, true, false, not, ◌&&◌, ◌||◌, List, [], ◌∷◌, eqb, ltb, leb, length}
 use Rattle.frames.specs.declared.Fields.{Fields}
 use Rattle.frames.specs.Limits.{log_limit}
+use Rattle.frames.specs.Refusal.{code}
 use Rattle.frames.specs.Message.{Message, vote_request, vote_answer, append, append_answer, text}
 use Rattle.frames.specs.Reading.{is_frame, message_in}
 use Rattle.frames.specs.Fields.{message_of, one_frame}
@@ -222,7 +223,7 @@ pub record Writing : Type 0 where
   pub room : List ℕ
 
 abbrev pub Writes : Writing → ℕ → Type 0
-Writes a n = (written a.fields a.room).answer.refusal ≡ n
+Writes a n = code (written a.fields a.room).answer ≡ n
 
 -- 1: "the .. fields to be written, are not one frame"
 abbrev pub not_fields : Writing → Bool

@@ -3,6 +3,7 @@
 use Rattle.std.specs.Prelude.{ℕ, ◌≤◌, ◌≡◌, refl, Bool, true, false, not, cond, ◌&&◌, ◌||◌, List, [], ◌∷◌, eqb, ltb, leb, length}
 use Rattle.std.proofs.Common.{arith, sym, ap, ◌∙◌, ltb-true, ltb-false, leb-true, leb-false, lt-ltb, le-ltb, le-leb, eq-eqb, ne_eqb}
 use Rattle.std.proofs.lemmas.Bool.{lt-leb}
+use Rattle.frames.specs.Refusal.{code}
 use Rattle.frames.specs.declared.Entry.{Entry}
 use Rattle.frames.specs.Limits.{log_limit}
 use Rattle.frames.specs.Message.{Message, vote_request, vote_answer, append, append_answer, text}
@@ -29,8 +30,7 @@ use Rattle.raft.specs.Receive.{sender, receiver, term_of, stale, current, delive
 use Rattle.raft.specs.Event.{Event, times_out, takes_order, is_prompted, receives, step}
 use Rattle.raft.specs.Exactly.{Exactly, Row, row, first, at_row, at_none}
 use Rattle.record.specs.declared.Record.{Record}
-use Rattle.record.specs.declared.Handed.{Handed}
-use Rattle.record.specs.Calls.{state_of, Called, untouched, fit, run, call, Begun, begun, handed}
+use Rattle.record.specs.Calls.{state_of, Called, untouched, fit, run, call, Begun, begun, handed, HandedTold}
 use Rattle.record.specs.Calls as calls
 use Rattle.record.specs.ExactlyWhen.{Asked, state, left_by, Answers, leads, astray, longer, overflows, of_own_term, cuts, names_past, checked, Table}
 use Rattle.record.specs.ExactlyWhen.{breaks_a_rule, not_one_frame, not_for_this_box, not_leader, client_blank, log_full, in_last_term, second_leader, would_cut, past_its_log, too_long}
@@ -411,14 +411,14 @@ start_exactly_when a =
       row_12 = carried 12 e (at_row 12 bad_box_or_mask [] (row 5 head_too_long ∷ []) refl refl refl a);
     }
 
-write_first : (a : Writing) → (written a.fields a.room).answer.refusal ≡ first write_checked a
+write_first : (a : Writing) → code (written a.fields a.room).answer ≡ first write_checked a
 unfolding written first
 write_first a =
     rw (more_not (length (text (message_of a.fields))) (length a.room))
     (go (one_frame a.fields) (leb (length (text (message_of a.fields))) (length a.room)) _ _ _ refl refl refl)
   where
-    go : (m l : Bool) (x y z : Wrote) → x.answer.refusal ≡ 0 → y.answer.refusal ≡ 5 → z.answer.refusal ≡ 1
-        → (cond m (cond l x y) z).answer.refusal ≡ cond (not m) 1 (cond (not l) 5 0)
+    go : (m l : Bool) (x y z : Wrote) → code x.answer ≡ 0 → code y.answer ≡ 5 → code z.answer ≡ 1
+        → code (cond m (cond l x y) z).answer ≡ cond (not m) 1 (cond (not l) 5 0)
     go true true x y z p q r = p
     go true false x y z p q r = q
     go false l x y z p q r = r
@@ -437,7 +437,7 @@ hand_first : (a : Handing) → (handed a.box a.terms a.orders).refusal ≡ first
 unfolding handed first
 hand_first a = go (good (state_of a.box a.terms a.orders)) _ _ refl refl
   where
-    go : (g : Bool) (x y : Handed) → x.refusal ≡ 0 → y.refusal ≡ 12 → (cond g x y).refusal ≡ cond (not g) 12 0
+    go : (g : Bool) (x y : HandedTold) → x.refusal ≡ 0 → y.refusal ≡ 12 → (cond g x y).refusal ≡ cond (not g) 12 0
     go true x y p q = p
     go false x y p q = q
 

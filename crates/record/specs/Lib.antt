@@ -8,6 +8,7 @@ pub mod WrittenLaws
 pub mod DecidingLaws
 pub mod ChangeLaws
 pub mod SameLaws
+pub mod TellingLaws
 pub mod ExactlyWhen
 pub mod ExactlyWhenLaws
 pub mod NextRecord

@@ -17,8 +17,7 @@ use Rattle.raft.proofs.EventLaws.{step-numbered}
 use Rattle.raft.proofs.RefusalLaws.{Numbered, at_least_one}
 use Rattle.raft.specs.LentLaws.{length-entries_of, take-entries}
 use Rattle.record.specs.declared.Record.{Record}
-use Rattle.record.specs.declared.Handed.{Handed}
-use Rattle.record.specs.Calls.{entries_of, state_of, Called, untouched, fit, written, run, call, Begun, begun, handed}
+use Rattle.record.specs.Calls.{entries_of, state_of, Called, untouched, fit, written, run, call, Begun, begun, handed, HandedTold}
 use Rattle.record.specs.SameLaws.{next-lent}
 
 -- What a call leaves is an outcome that is done: its record, its line of the journal and its messages.
@@ -83,7 +82,7 @@ pub handed_are : (b : Record) (terms orders : List ℕ) → (handed b terms orde
 unfolding handed handed_out
 handed_are b terms orders = go (good (state_of b terms orders)) refl _ _ refl refl
   where
-    go : (g : Bool) → good (state_of b terms orders) ≡ g → (x y : Handed) → x.count ≡ b.commit → y.refusal ≡ 12
+    go : (g : Bool) → good (state_of b terms orders) ≡ g → (x y : HandedTold) → x.count ≡ b.commit → y.refusal ≡ 12
         → (cond g x y).refusal ≡ 0 → entries_of terms orders 0 (cond g x y).count ≡ take b.commit (entries_of terms orders 0 b.last)
     go true h x y p q z =
         let low : min b.commit b.last ≡ x.count =

@@ -1,6 +1,8 @@
 -- How long a step's line and messages are, from the struct alone, what the code writes them from, and the step's answer. Assumes nothing.
-use Rattle.std.specs.Prelude.{ℕ, zero, suc, ◌+◌, ◌-◌, ◌*◌, ◌≤◌, min, ◌≡◌, Bool, true, cond, ◌&&◌, List, [], eqb, leb, length}
+use Rattle.std.specs.Prelude.{ℕ, zero, suc, ◌+◌, ◌-◌, ◌*◌, ◌≤◌, min, ◌≡◌, Bool, true, cond, ◌&&◌, List, [], eqb, leb, length, Result, Ok, Err}
 use Rattle.frames.specs.Limits.{boxes, IsBox, entry_limit}
+use Rattle.frames.specs.declared.refusal.Refusal.{Refusal}
+use Rattle.frames.specs.declared.refusal.Refusal.TheVariants.{NoRoom}
 use Rattle.record.specs.declared.Record.{Record}
 use Rattle.record.specs.declared.Send.{Send}
 use Rattle.record.specs.declared.Decision.{Decision}
@@ -132,15 +134,12 @@ pub record MessagesFit (send : Send) (b : Record) (terms orders room : List ℕ)
 unfoldable pub roomy : (line journal sent messages : ℕ) → Bool
 roomy line journal sent messages = leb line journal && leb sent messages
 
--- What is known of a step before anything is written. The decision's own refusal, then 5: "the head, journal line or messages are longer than the room left";
--- otherwise how long line and messages are.
-unfoldable pub measured : Record → Decision → (journal messages : ℕ) → Sizes
+-- What is known of a step before anything is written: how long line and messages are, or 5, "the head, journal line or messages are longer than the room left".
+unfoldable pub measured : Record → Decision → (journal messages : ℕ) → Result Sizes Refusal
 measured n d journal messages =
-    cond (eqb d.refusal 0)
-    (cond (roomy (line_size n d) journal (sent_size d.send d.next) messages)
-    (record { refusal = 0; line = line_size n d; sent = sent_size d.send d.next })
-    (record { refusal = 5; line = 0; sent = 0 }))
-    (record { refusal = d.refusal; line = 0; sent = 0 })
+    cond (roomy (line_size n d) journal (sent_size d.send d.next) messages)
+    (Ok (record { line = line_size n d; sent = sent_size d.send d.next }))
+    (Err NoRoom)
 
 -- A decision whose line and messages have a length.
 pub record Measurable (d : Decision) : Type 0 where

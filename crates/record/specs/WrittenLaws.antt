@@ -1,5 +1,5 @@
 -- What is written of a decision is what its outcome leaves: the lent log, the journal line, the messages. Assumes nothing.
-use Rattle.std.specs.Prelude.{ℕ, ◌+◌, ◌-◌, ◌*◌, ◌≤◌, ◌≡◌, Bool, cond, List, [], ◌++◌, leb, take}
+use Rattle.std.specs.Prelude.{ℕ, ◌+◌, ◌-◌, ◌*◌, ◌≤◌, ◌≡◌, Bool, cond, List, [], ◌++◌, leb, take, Result, Ok, Err}
 use Rattle.std.proofs.Math.Nat.{zero-add}
 use Rattle.std.proofs.Common.{add-zero, sym, ◌∙◌, append-nil, length-append, take-append-drop, take_all}
 use native.Mathlib.Omega.{arith}
@@ -14,7 +14,9 @@ use Rattle.digits.specs.RoomLaws.{over_nothing, length_over}
 use Rattle.frames.specs.declared.Entry.{Entry}
 use Rattle.frames.specs.Fields.{listed}
 use Rattle.frames.specs.Laws.{length-listed}
+use Rattle.frames.specs.RefusalLaws.{ok_is, err_is, ok_not_err, err_not_ok}
 use Rattle.frames.specs.WritingLaws.{length-spell, chars-entries}
+use Rattle.frames.specs.declared.refusal.Refusal.{Refusal}
 use Rattle.record.specs.declared.Record.{Record}
 use Rattle.record.specs.declared.Decision.{Decision}
 use Rattle.record.specs.declared.Sizes.{Sizes}
@@ -83,31 +85,24 @@ fits_both : (a b c d : ℕ) → roomy a b c d ≡ true → (a ≤ b) × (c ≤ d
 unfolding roomy
 fits_both a b c d both = (leb-true a b (and_left (leb a b) (leb c d) both), leb-true c d (and_right (leb a b) (leb c d) both))
 
--- A step that is not refused: its decision refuses nothing, its sizes are those of line and messages, and both fit.
+-- A step that is not refused: its sizes are those of line and messages, and both fit.
 pub record Fitting (n : Record) (d : Decision) (journal messages : ℕ) (sizes : Sizes) : Type 0 where
-  pub accepted : d.refusal ≡ 0
-  pub says : sizes ≡ record { refusal = 0; line = line_size n d; sent = sent_size d.send d.next }
+  pub says : sizes ≡ record { line = line_size n d; sent = sent_size d.send d.next }
   pub line : sizes.line ≡ line_size n d
   pub line_fits : line_size n d ≤ journal
   pub sent_fits : sent_size d.send d.next ≤ messages
 
-pub fitting : (n : Record) (d : Decision) (journal messages : ℕ) {sizes : Sizes} → sizes ≡ measured n d journal messages → sizes.refusal ≡ 0
+pub fitting : (n : Record) (d : Decision) (journal messages : ℕ) {sizes : Sizes} → Ok sizes ≡ measured n d journal messages
     → Fitting n d journal messages sizes
 unfolding measured
-fitting n d journal messages {sizes} e h =
-    go (eqb d.refusal 0) refl (roomy (line_size n d) journal (sent_size d.send d.next) messages) refl
+fitting n d journal messages {sizes} e = go (roomy (line_size n d) journal (sent_size d.send d.next) messages) refl
   where
-    number : {s : Sizes} → sizes ≡ s → s.refusal ≡ 0
-    number f = sym (ap (λ (x : Sizes). x.refusal) f) ∙ h
-
-    go : (x : Bool) → eqb d.refusal 0 ≡ x → (y : Bool) → roomy (line_size n d) journal (sent_size d.send d.next) messages ≡ y
-        → Fitting n d journal messages sizes
-    go true p true q =
+    go : (y : Bool) → roomy (line_size n d) journal (sent_size d.send d.next) messages ≡ y → Fitting n d journal messages sizes
+    go true q =
         let room = fits_both (line_size n d) journal (sent_size d.send d.next) messages q in
-        let says = rw (p, q) at e in
-        record { accepted = eqb-true d.refusal 0 p; says = says; line = ap (λ (x : Sizes). x.line) says; line_fits = room.0; sent_fits = room.1 }
-    go true p false q = absurd (omega (arith, number (rw (p, q) at e)))
-    go false p y q = absurd (eqb-false d.refusal 0 p (number (rw p at e)))
+        let says = ok_is (rw q at e) in
+        record { says = says; line = ap (λ (x : Sizes). x.line) says; line_fits = room.0; sent_fits = room.1 }
+    go false q = absurd (ok_not_err (rw q at e))
 
 -- next is at most one past the last index, whether the record sends or not
 progress_most : (sends : Bool) (last next matched : ℕ) {m : ℕ} → is_progress sends last next matched ≡ true → last ≡ m → next ≤ m + 1
@@ -196,42 +191,32 @@ module _ {n : Record} {d : Decision} {offered : List Entry} {terms orders : List
 
   -- ---- what the code leaves is what the outcome leaves
 
-  module _ (done-so : d.refusal ≡ 0) where
-    comes-done : decided d offered terms orders ≡ done t (messages_of d.send t)
-    unfolding decided
-    comes-done = rw (eq-eqb d.refusal 0 done-so)
+  comes-done : decided d offered terms orders ≡ done t (messages_of d.send t)
+  unfolding decided
+  comes-done = refl
 
-    line-told : line_size n d ≡ length (journaled s t)
-    line-told = line-sized n d terms' orders' ∙ sym (ap length after_line)
+  line-told : line_size n d ≡ length (journaled s t)
+  line-told = line-sized n d terms' orders' ∙ sym (ap length after_line)
 
-    sent-told : sent_size d.send d.next ≡ length (texts (messages_of d.send t))
-    sent-told = sent-long d.send d.next terms' orders' ∙ rw after-lent
+  sent-told : sent_size d.send d.next ≡ length (texts (messages_of d.send t))
+  sent-told = sent-long d.send d.next terms' orders' ∙ rw after-lent
 
-    -- what does not fit: 5
-    short-left : (journal messages : List ℕ) → roomy (line_size n d) (length journal) (sent_size d.send d.next) (length messages) ≡ false
-        → Runs (decided d offered terms orders) n terms orders journal messages (record { refusal = 5; state = n; line = 0; sent = 0 }) terms orders journal messages
-    unfolding run written fit roomy
-    short-left journal messages q = rw (comes-done, ← line-told, ← sent-told, q)
-
-  -- what is refused leaves nothing
-  pub refused-left : (journal messages : List ℕ) {sizes : Sizes} → sizes ≡ measured n d (length journal) (length messages) → (sizes.refusal ≡ 0 → ⊥)
-      → Runs (decided d offered terms orders) n terms orders journal messages (record { refusal = sizes.refusal; state = n; line = 0; sent = 0 }) terms orders journal messages
-  unfolding measured decided run
-  refused-left journal messages {sizes} e h =
-      go (eqb d.refusal 0) refl (roomy (line_size n d) (length journal) (sent_size d.send d.next) (length messages)) refl
+  -- what does not fit: 5, and nothing is left
+  pub refused-left : (journal messages : List ℕ) {r : Refusal} → Err r ≡ measured n d (length journal) (length messages)
+      → Runs (decided d offered terms orders) n terms orders journal messages (Err r) terms orders journal messages
+  unfolding measured run written fit roomy
+  refused-left journal messages {r} e = go (roomy (line_size n d) (length journal) (sent_size d.send d.next) (length messages)) refl
     where
-      go : (x : Bool) → eqb d.refusal 0 ≡ x
-          → (y : Bool) → roomy (line_size n d) (length journal) (sent_size d.send d.next) (length messages) ≡ y
-          → Runs (decided d offered terms orders) n terms orders journal messages (record { refusal = sizes.refusal; state = n; line = 0; sent = 0 }) terms orders journal messages
-      go true p true q = absurd (h (ap (λ (x : Sizes). x.refusal) (rw (p, q) at e)))
-      go true p false q = rw (rw (p, q) at e) (short-left (eqb-true d.refusal 0 p) journal messages q)
-      go false p y q = rw (rw p at e, p)
+      go : (y : Bool) → roomy (line_size n d) (length journal) (sent_size d.send d.next) (length messages) ≡ y
+          → Runs (decided d offered terms orders) n terms orders journal messages (Err r) terms orders journal messages
+      go true q = absurd (err_not_ok (rw q at e))
+      go false q = rw (err_is (rw q at e), comes-done, ← line-told, ← sent-told, q)
 
   -- what fits: the line, the messages, and the log with the new entries
   fitting_left : (journal messages : List ℕ) {sizes : Sizes} {journal' messages' : List ℕ} → Fitting n d (length journal) (length messages) sizes
       → journal' ≡ over journal 0 (line_bytes n d terms' orders')
       → messages' ≡ over messages 0 (texts (messages_of d.send (state_of d.next terms' orders')))
-      → Runs (decided d offered terms orders) n terms orders journal messages (record { refusal = 0; state = d.next; line = sizes.line; sent = sizes.sent })
+      → Runs (decided d offered terms orders) n terms orders journal messages (Ok (record { next = d.next; line = sizes.line; sent = sizes.sent }))
       terms' orders' journal' messages'
   unfolding run written fit
   fitting_left journal messages f jo me =
@@ -239,11 +224,11 @@ module _ {n : Record} {d : Decision} {offered : List Entry} {terms orders : List
         f.says,
         jo ∙ ap (over journal 0) (sym after_line),
         me ∙ ap (λ (u : State). over messages 0 (texts (messages_of d.send u))) (sym after-lent),
-        comes-done f.accepted,
-        le-leb (length (journaled s t)) (length journal) (omega (arith, line-told f.accepted, f.line_fits)),
-        le-leb (length (texts (messages_of d.send t))) (length messages) (omega (arith, sent-told f.accepted, f.sent_fits)),
-        line-told f.accepted,
-        sent-told f.accepted,
+        comes-done,
+        le-leb (length (journaled s t)) (length journal) (omega (arith, line-told, f.line_fits)),
+        le-leb (length (texts (messages_of d.send t))) (length messages) (omega (arith, sent-told, f.sent_fits)),
+        line-told,
+        sent-told,
         ← after-terms,
         ← after-orders,
       )
@@ -271,10 +256,10 @@ module _ {n : Record} {d : Decision} {offered : List Entry} {terms orders : List
       (rw none (over-empty terms d.kept (omega (arith, k.low, p))), rw none (over-empty orders d.kept (omega (arith, k.low, q))))
 
   -- the next record's messages can be made
-  pub after-sendable : d.refusal ≡ 0 → Sendable d.next terms' orders'
+  pub after-sendable : Sendable d.next terms' orders'
   unfolding sends_to
-  after-sendable h =
-      let g : Good (state_of d.next terms' orders') = rw (← after-lent) (u.next_good h) in
+  after-sendable =
+      let g : Good (state_of d.next terms' orders') = rw (← after-lent) u.next_good in
       record {
         in_terms = omega (arith, y, length_over terms d.kept (terms_of new) (omega (arith, terms_long new, new-long, k.sum, y)));
         in_orders = omega (arith, z, length_over orders d.kept (orders_of new) (omega (arith, orders_long new, new-long, k.sum, z)));
@@ -306,13 +291,13 @@ module _ {n : Record} {d : Decision} {offered : List Entry} {terms orders : List
     -- the messages too,
     pub lent-messages : {journal : ℕ} {messages : List ℕ} {sizes : Sizes} → Fitting n d journal (length messages) sizes
         → MessagesFit d.send d.next terms'' orders'' messages
-    lent-messages f = record { aimed = k.aimed; sendable = rw (same-terms, same-orders) (after-sendable f.accepted); in_room = f.sent_fits }
+    lent-messages f = record { aimed = k.aimed; sendable = rw (same-terms, same-orders) after-sendable; in_room = f.sent_fits }
 
     -- and that is what the outcome leaves
     pub lent-left : (journal messages : List ℕ) {sizes : Sizes} {journal' messages' : List ℕ} → Fitting n d (length journal) (length messages) sizes
         → journal' ≡ over journal 0 (line_bytes n d terms'' orders'')
         → messages' ≡ over messages 0 (texts (messages_of d.send (state_of d.next terms'' orders'')))
-        → Runs (decided d offered terms orders) n terms orders journal messages (record { refusal = 0; state = d.next; line = sizes.line; sent = sizes.sent })
+        → Runs (decided d offered terms orders) n terms orders journal messages (Ok (record { next = d.next; line = sizes.line; sent = sizes.sent }))
         terms'' orders'' journal' messages'
     lent-left journal messages f jo me =
         rw (same-terms, same-orders) (fitting_left journal messages f (rw (same-terms, same-orders) at jo) (rw (same-terms, same-orders) at me))

@@ -93,46 +93,35 @@ pub enum Send {
     AppendAnswer { to: u8, reply: u8, index: u16 },
 }
 
-// What an event decides, before anything is written: 01's number; where that is 0 the next record, how many entries of the log it keeps, which of
-// the entries that were offered come behind them (from first up to count), and what is sent.
+// What an event decides, before anything is written: the next record, how many entries of the log it keeps, which of the entries that were offered
+// come behind them (from first up to count), and what is sent.
 #[derive(Clone, Copy)]
 pub struct Decision {
     pub next: Record,
-    pub refusal: u8,
     pub kept: u16,
     pub first: u8,
     pub count: u8,
     pub send: Send,
 }
 
-// What is known of a step before anything is written: 01's number, and how many bytes its journal line and its messages take.
+// How many bytes a step's journal line and its messages take.
 #[derive(Clone, Copy)]
 pub struct Sizes {
-    pub refusal: u8,
     pub line: usize,
     pub sent: usize,
 }
 
-// A step's answer: 01's number, the next record, and how many bytes of journal line and messages were written.
+// A step that is done: the next record, or the next box around it, and how many bytes of journal line and messages were written.
 #[derive(Clone, Copy)]
-pub struct Step {
-    pub state: Record,
+pub struct Step<B> {
+    pub next: B,
     pub line: usize,
     pub sent: usize,
-    pub refusal: u8,
 }
 
-// A start's answer: 01's number, the record, and how many bytes of head were written.
+// A start that is done: the fresh record, or the box around it, and how many bytes of head were written.
 #[derive(Clone, Copy)]
-pub struct Started {
-    pub state: Record,
-    pub refusal: u8,
+pub struct Started<B> {
+    pub fresh: B,
     pub bytes: usize,
-}
-
-// How many entries are handed out, with 01's number.
-#[derive(Clone, Copy)]
-pub struct Handed {
-    pub refusal: u8,
-    pub count: u16,
 }

@@ -2,3 +2,4 @@
 pub mod Required
 pub mod RecordLaws
 pub mod SearchLaws
+pub mod SliceLaws

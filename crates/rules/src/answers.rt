@@ -1,5 +1,5 @@
 // "Append answer", and the commit that an append or the matching boxes bring.
-ghost use Rattle.std.specs.Prelude.{◌≡◌, cond, ◌&&◌, eqb, ltb, max, min, ◌≤◌};
+ghost use Rattle.std.specs.Prelude.{◌≡◌, cond, ◌&&◌, eqb, ltb, ◌≤◌};
 ghost use Rattle.frames.specs.Limits.{log_limit};
 ghost use Rattle.raft.specs.Append.{commit_after};
 ghost use Rattle.raft.specs.AppendAnswer.{match_after, next_heard};
@@ -8,49 +8,29 @@ ghost use Rattle.raft.specs.AppendAnswer.{match_after, next_heard};
 pub fn commit_after(own: u16, leaders: u16, end: u16) -> u16
     ensures { result ≡ commit_after own leaders end }
 {
-    larger(own, smaller(leaders, end))
+    own.max(leaders.min(end))
 }
 
-// The smaller of two indexes.
-fn smaller(a: u16, b: u16) -> u16
-    ensures { result ≡ min a b }
-{
-    if a <= b {
-        return a;
-    }
-    b
-}
-
-// The larger of two.
-fn larger(a: u16, b: u16) -> u16
-    ensures { result ≡ max a b }
-{
-    if a <= b {
-        return b;
-    }
-    a
-}
-
-// "Yes: match = the larger of match and the index named"
+// "Yes: match = the larger of match and the index named". The reply is the number on the wire: the definition is over it.
 pub fn match_after(reply: u8, index: u16, matched: u16) -> u16
     ensures { result ≡ match_after reply index matched }
 {
     if reply == 1 {
-        return larger(matched, index);
+        return matched.max(index);
     }
     matched
 }
 
-// "next = the larger of next and match + 1. No: next = the larger of next - 1 and match + 1."
+// "next = the larger of next and match + 1. No: next = the larger of next - 1 and match + 1." The reply is the number on the wire, as above.
 pub fn next_heard(reply: u8, next: u16, matched: u16) -> u16
     requires matched_le_log_limit { matched ≤ log_limit }
     requires le_next { 1 ≤ next }
     ensures { result ≡ next_heard reply next matched }
 {
     if reply == 1 {
-        return larger(next, matched + 1);
+        return next.max(matched + 1);
     }
-    larger(next - 1, matched + 1)
+    (next - 1).max(matched + 1)
 }
 
 // "the largest index above commit whose entry has the current term": the largest index that a majority matches, with the term of its entry.

@@ -62,19 +62,15 @@ pub fn is_progress(sends: bool, last: u16, next: u16, matched: u16) -> bool
 }
 
 // "Entry terms are at least 1, never fall, and none is above the term." Terms that never fall lie between the first and the last of them, so one test an entry
-// is enough. It looks at every entry, with no way out early: so the compiler takes several at once.
-pub fn in_order(terms: &[u32], last: usize, term: u32) -> bool
-    requires { last ≤ length terms.now }
-    ensures { result ≡ in_order 0 term (entries_of terms.now [] 0 last) }
+// is enough. The terms are the log's own, no more. It looks at every entry, with no way out early: so the compiler takes several at once.
+pub fn in_order(terms: &[u32], term: u32) -> bool
+    ensures { result ≡ in_order 0 term (entries_of terms.now [] 0 (length terms.now)) }
 {
     let mut ok = true;
     let mut previous: u32 = 1;
-    let mut i = 0;
-    while i < last {
-        let t = terms[i];
-        ok = ok & (previous <= t);
-        previous = t;
-        i += 1;
+    for t in terms {
+        ok = ok & (previous <= *t);
+        previous = *t;
     }
-    ok & ((last == 0) | (previous <= term))
+    ok & (terms.is_empty() | (previous <= term))
 }

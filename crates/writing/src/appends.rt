@@ -10,6 +10,7 @@ ghost use Rattle.record.specs.Sizes.{share, shares, previous, entry_count, appen
 ghost use Rattle.record.specs.SizeLaws.{only};
 
 use crate::journal_lines::put_logged;
+use crate::others::shares;
 use frames::Fields;
 use record::Record;
 use rules::{is_other, term_at};
@@ -55,29 +56,11 @@ pub fn append_size(n: Record, i: u8) -> usize
     35 + 24 * entry_count(n.last, previous(n, i)) as usize
 }
 
-// What box i gets where every other member gets an append.
-fn append_share(n: Record, i: u8) -> usize
-    requires { IsBox i }
-    ensures value { result ≡ share n (append_size n) i }
-    ensures upper_bound { result ≤ longest_message }
-{
-    if is_other(n.me, n.members, i) {
-        return append_size(n, i);
-    }
-    0
-}
-
 // The bytes of all appends.
 pub fn appends_size(n: Record) -> usize
     ensures { result ≡ shares n (append_size n) boxes }
 {
-    let mut size = 0;
-    let mut i = 1;
-    while i <= Fields::BOXES {
-        size += append_share(n, i);
-        i += 1;
-    }
-    size
+    shares(n, |i| append_size(n, i))
 }
 
 // An append whose entries stand in the lent log behind the previous index.

@@ -3,6 +3,7 @@
 
 mod appends;
 mod journal_lines;
+mod others;
 mod requests;
 
 pub use appends::{append_size, appends_size, put_append, put_appends};

@@ -7,33 +7,16 @@ ghost use Rattle.record.specs.Calls.{with_entries};
 ghost use Rattle.record.specs.Sizes.{share, shares, request_size, ShareFits};
 ghost use Rattle.record.specs.SizeLaws.{asks, only, others_to};
 
+use crate::others::shares;
 use frames::Fields;
 use record::Record;
 use rules::is_other;
 
-// What box i gets: a request of 29 bytes, or nothing.
-fn request_share(n: Record, i: u8) -> usize
-    requires { IsBox i }
-    ensures value { result ≡ share n request_size i }
-    ensures upper_bound { result ≤ 29 }
-{
-    if is_other(n.me, n.members, i) {
-        return 29;
-    }
-    0
-}
-
-// The bytes of all vote requests.
+// The bytes of all vote requests, of 29 bytes each.
 pub fn requests_size(n: Record) -> usize
     ensures { result ≡ shares n request_size boxes }
 {
-    let mut size = 0;
-    let mut i = 1;
-    while i <= Fields::BOXES {
-        size += request_share(n, i);
-        i += 1;
-    }
-    size
+    shares(n, |_| 29)
 }
 
 // Box i's request, from a place on, or nothing; the answer is the place behind it.

@@ -10,13 +10,13 @@ use Rattle.frame_reader.proofs.count.Goals as goal
 pub get_u8-requires : goal.get_u8-requires
 unfolding size
 get_u8-requires c =
-    let fixed : 2 * size 3 0 ≤ run c.args.s.now = rw c.if-kind-eq3.true at c.requires.fixed in
+    let fixed : 2 * size 3 0 ≤ run c.args.s.now = rw c.if-kind-eq-APPEND.true at c.requires.fixed in
     omega arith
 
-pub returns-then-kind-eq3 : goal.returns-then-kind-eq3
-returns-then-kind-eq3 c =
-    c.get_u8.ensures ∙ sym (count-append c.args.s.now (sym c.requires.kind_is ∙ c.if-kind-eq3.true))
+pub returns-then-kind-eq-APPEND : goal.returns-then-kind-eq-APPEND
+returns-then-kind-eq-APPEND c =
+    c.get_u8.ensures ∙ sym (count-append c.args.s.now (sym c.requires.kind_is ∙ c.if-kind-eq-APPEND.true))
 
-pub returns : goal.returns
-returns c =
-    sym (count_none c.args.s.now (λ e. c.if-kind-eq3.false (c.requires.kind_is ∙ e)))
+pub returns-else-kind-eq-APPEND : goal.returns-else-kind-eq-APPEND
+returns-else-kind-eq-APPEND c =
+    sym (count_none c.args.s.now (λ e. c.if-kind-eq-APPEND.false (c.requires.kind_is ∙ e)))

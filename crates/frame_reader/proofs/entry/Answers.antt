@@ -5,11 +5,11 @@ use Rattle.frames.specs.Reading.{entry_at}
 use Rattle.frames.proofs.ReadingLaws.{entry-there, entry_past}
 use Rattle.frame_reader.proofs.entry.Goals as goal
 
-pub returns-then-at-count : goal.returns-then-at-count
-unfolding entry_at
-returns-then-at-count c =
-    rw (c.get_u32.ensures, c.get_u64.ensures) (sym (entry-there c.args.s.now c.args.from c.args.count c.args.at (omega arith)))
+pub returns-then-count-at : goal.returns-then-count-at
+returns-then-count-at c =
+    sym (entry_past c.args.s.now c.args.from c.args.count c.args.at (omega arith))
 
 pub returns : goal.returns
+unfolding entry_at
 returns c =
-    sym (entry_past c.args.s.now c.args.from c.args.count c.args.at (omega arith))
+    rw (c.get_u32.ensures, c.get_u64.ensures) (sym (entry-there c.args.s.now c.args.from c.args.count c.args.at (omega arith)))

@@ -18,17 +18,6 @@ returns-then-s-text_size c =
     rw (ne_eqb (length c.args.s.now) (text_size (size (kind c.args.s.now) (count c.args.s.now)))
     (omega (arith, same, size-grows c.args.kind (count c.args.s.now), c.size.ensures, c.text_size.ensures)))
 
-pub count-n-requires : goal.count-n-requires
-count-n-requires c =
-    record {
-      kind_is = c.requires.kind_is;
-      fixed = omega (arith, c.size.ensures, c.text_size.ensures);
-    }
-
 pub text_size-requires-2 : goal.text_size-requires-2
 text_size-requires-2 c =
     omega (arith, c.size-2.ensures, size-lt c.args.kind c.count-n.result (omega arith) (omega arith))
-
-pub returns : goal.returns
-returns c =
-    cc c.requires.kind_is

@@ -4,25 +4,25 @@ use mathlib.Core.Path.{sym, ◌∙◌}
 use Rattle.frames.specs.Reading.{kind, is_headed, readable, shaped}
 use Rattle.frames.proofs.ReadingLaws.{unreadable, line-run, headed_kind}
 use Rattle.frame_reader.proofs.is_readable.Goals as goal
+use Rattle.frame_reader.proofs.is_readable.Goals.{then-s-lt19-via-then-s-lt19, then-s-lt19-via-else-s-lt19+then-not-is_line}
 
 pub returns-then-s-lt19 : goal.returns-then-s-lt19
-returns-then-s-lt19 c =
-    sym (unreadable c.args.s.now c.if-s-lt19.true)
-
-pub returns-then-not-is_line : goal.returns-then-not-is_line
 unfolding readable shaped is_headed
-returns-then-not-is_line c =
-    rw (sym c.is_line.ensures ∙ c.if-not-is_line.true)
+returns-then-s-lt19 c =
+    elim c.then-s-lt19.branch [
+      | then-s-lt19-via-then-s-lt19 w ↦ sym (unreadable c.args.s.now w.if-s-lt19.true)
+      | then-s-lt19-via-else-s-lt19+then-not-is_line w ↦ rw (sym w.is_line.ensures ∙ w.if-not-is_line.true)
+    ]
 
 pub get_u8-kind-requires : goal.get_u8-kind-requires
-get_u8-kind-requires c = omega (arith, line-run _ (sym c.is_line.ensures ∙ c.if-not-is_line.false))
+get_u8-kind-requires c = omega (arith, line-run _ (sym c.if-not-is_line.ensures))
 
 pub is_headed-requires : goal.is_headed-requires
 unfolding kind
 is_headed-requires c =
     record {
-      line = sym c.is_line.ensures ∙ c.if-not-is_line.false;
-      digits = omega (arith, line-run _ (sym c.is_line.ensures ∙ c.if-not-is_line.false));
+      line = sym c.if-not-is_line.ensures;
+      digits = omega (arith, line-run _ (sym c.if-not-is_line.ensures));
       kind_is = c.get_u8-kind.ensures;
     }
 
@@ -31,16 +31,15 @@ unfolding kind
 is_long-requires c =
     record {
       kind_is = c.get_u8-kind.ensures;
-      most = omega (arith, c.get_u8-kind.ensures, headed_kind _ (sym c.is_headed.ensures ∙ c.if-is_headed.true));
-      line = line-run _ (sym c.is_line.ensures ∙ c.if-not-is_line.false);
+      most = omega (arith, c.get_u8-kind.ensures, headed_kind _ (sym c.if-is_headed.ensures));
+      line = line-run _ (sym c.if-not-is_line.ensures);
     }
 
 pub returns-then-is_headed : goal.returns-then-is_headed
 unfolding readable shaped
-returns-then-is_headed c =
-    c.is_long.ensures ∙ rw (sym c.is_headed.ensures ∙ c.if-is_headed.true)
+returns-then-is_headed c = c.is_long.ensures ∙ rw (sym c.if-is_headed.ensures)
 
-pub returns : goal.returns
+pub returns-else-is_headed : goal.returns-else-is_headed
 unfolding readable shaped
-returns c =
-    rw (sym c.is_headed.ensures ∙ c.if-is_headed.false)
+returns-else-is_headed c =
+    c.if-is_headed.false ∙ rw (sym c.if-is_headed.ensures)

@@ -1,7 +1,10 @@
 -- Too long a log and a bad membership are refused first; of another record the rest decides (`good-by`).
 use native.Mathlib.Omega.{arith}
-use mathlib.Core.Path.{sym, ◌∙◌}
+use mathlib.Core.List.{[]}
+use mathlib.Core.Path.{sym, ap, ◌∙◌}
+use Rattle.frames.specs.Rules.{in_order}
 use Rattle.record.specs.GoodLaws.{membership-box, good-by, not-good-long, not-good-membership}
+use Rattle.rules.specs.SliceLaws.{entries-own}
 use Rattle.changes.proofs.good.is_good.Goals as goal
 
 pub returns-then-last-gt-LOG : goal.returns-then-last-gt-LOG
@@ -19,5 +22,7 @@ are_votes-requires c =
 pub returns : goal.returns
 returns c =
     λ orders.
-    rw (c.is_vote.ensures, c.in_order.ensures, c.is_role.ensures, c.are_votes.ensures, c.all_progress.ensures)
+    let own = entries-own c.args.terms.now [] c.args.n.last (omega arith) in
+    let ordered = c.in_order.ensures ∙ ap (in_order 0 c.args.n.term) own in
+    rw (c.is_vote.ensures, ordered, c.is_role.ensures, c.are_votes.ensures, c.all_progress.ensures)
     (sym (good-by c.args.n c.args.terms.now orders (sym c.is_membership.ensures ∙ c.if-not-is_membership.false) (omega arith)))

@@ -1,11 +1,11 @@
 -- The definition's two cases.
-use native.Mathlib.Omega.{arith}
 use mathlib.Core.List.{[]}
+use mathlib.Core.Path.{refl}
 use borrow.Author.Tests.{eq-eqb, ne_eqb}
 use Rattle.raft.specs.Prompt.{prompt}
 use Rattle.record.specs.declared.Send.{Send}
 use Rattle.record.specs.Deciding.{messages_of, Aimed}
-use Rattle.record.specs.DecidingLaws.{plain-decides, refuse-decides}
+use Rattle.record.specs.DecidingLaws.{plain-decides}
 use Rattle.events.proofs.prompt.decide.Goals as goal
 
 pub returns-then-n-eq-LEADER : goal.returns-then-n-eq-LEADER
@@ -19,9 +19,4 @@ returns-then-n-eq-LEADER c =
 
 pub returns : goal.returns
 unfolding prompt
-returns c =
-    record {
-      by_index = λ terms orders.
-          rw c.refuse.ensures (refuse-decides c.args.n [] terms orders 3 c.requires (omega arith) (rw (ne_eqb _ _ c.if-n-eq-LEADER.false)));
-      first_value = rw c.refuse.ensures;
-    }
+returns c = record { by_index = λ terms orders. rw (ne_eqb _ _ c.if-n-eq-LEADER.false); first_value = tt }

@@ -2,23 +2,27 @@
 use mathlib.Core.Path.{◌∙◌}
 use Rattle.raft.specs.Event.{step, is_prompted}
 use Rattle.record.specs.GoodLaws.{ready-last}
-use Rattle.record.specs.DecidingLaws.{sound, finished}
+use Rattle.record.specs.DecidingLaws.{sound, finished, exit-leaves}
 use Rattle.events.proofs.prompt.run_prompt.Goals as goal
 
-pub decide-d-requires : goal.decide-d-requires
-decide-d-requires c =
-    ready-last c.requires
+pub decide-requires : goal.decide-requires
+decide-requires c = ready-last c.requires
+
+pub returns-in_err-d : goal.returns-in_err-d
+unfolding step
+returns-in_err-d c =
+    exit-leaves c.args.n _ c.from_residual.result c.from_residual.ensures.1 (c.in_err-d.ensures.by_index c.args.terms.now c.args.orders.now)
 
 pub finish-requires : goal.finish-requires
 unfolding step
 finish-requires c =
     record {
-      sound = sound is_prompted c.requires (c.decide-d.ensures.by_index c.args.terms.now c.args.orders.now);
-      none = c.decide-d.ensures.first_value;
+      sound = sound is_prompted c.requires (c.in_ok-d.ensures.by_index c.args.terms.now c.args.orders.now);
+      none = c.in_ok-d.ensures.first_value;
     }
 
 pub returns : goal.returns
 unfolding step
 returns c =
-    c.finish.ensures ∙ finished is_prompted c.requires (c.decide-d.ensures.by_index c.args.terms.now c.args.orders.now)
+    c.finish.ensures ∙ finished is_prompted c.requires (c.in_ok-d.ensures.by_index c.args.terms.now c.args.orders.now)
     c.args.journal.now c.args.messages.now

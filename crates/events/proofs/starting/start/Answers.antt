@@ -10,8 +10,7 @@ use Rattle.events.proofs.starting.start.Goals as goal
 
 pub returns-then-not-is_membership : goal.returns-then-not-is_membership
 unfolding begun
-returns-then-not-is_membership c =
-    rw (sym c.is_membership.ensures ∙ c.if-not-is_membership.true, c.fresh.ensures)
+returns-then-not-is_membership c = rw (sym c.is_membership.ensures ∙ c.if-not-is_membership.true)
 
 pub returns-then-journal-lt9 : goal.returns-then-journal-lt9
 unfolding begun
@@ -19,7 +18,6 @@ returns-then-journal-lt9 c =
     let long = head-long c.args.me c.args.mask in
     rw (
       sym c.is_membership.ensures ∙ c.if-not-is_membership.false,
-      c.fresh-then-journal-lt9.ensures,
       lt-leb (length (head c.args.me c.args.mask)) (length c.args.journal.now) (omega (arith, long, c.if-journal-lt9.true)),
     )
 
@@ -29,7 +27,7 @@ returns c =
     let long = head-long c.args.me c.args.mask in
     rw (
       sym c.is_membership.ensures ∙ c.if-not-is_membership.false,
-      c.fresh-2.ensures,
+      c.fresh.ensures,
       c.put_head.ensures,
       le-leb (length (head c.args.me c.args.mask)) (length c.args.journal.now) (omega (arith, long, c.if-journal-lt9.false)),
       long,

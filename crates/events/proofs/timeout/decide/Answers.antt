@@ -9,7 +9,7 @@ use Rattle.raft.specs.Timeout.{standing, timeout}
 use Rattle.record.specs.declared.Send.{Send}
 use Rattle.record.specs.Deciding.{messages_of, Aimed}
 use Rattle.record.specs.GoodLaws.{ready-good, ready-box, ready-last}
-use Rattle.record.specs.DecidingLaws.{plain-decides, changed-decides, refuse-decides, decides_at, decides-term, becomes_lent, becomes_ready}
+use Rattle.record.specs.DecidingLaws.{plain-decides, changed-decides, decides_at, decides-term, becomes_lent, becomes_ready}
 use Rattle.events.proofs.timeout.decide.Goals as goal
 
 pub returns-then-n-eq-LEADER : goal.returns-then-n-eq-LEADER
@@ -22,9 +22,7 @@ returns-then-n-eq-LEADER c =
 pub returns-then-n-eq-LAST_TERM : goal.returns-then-n-eq-LAST_TERM
 unfolding timeout
 returns-then-n-eq-LAST_TERM c =
-    rw c.refuse.ensures
-    (refuse-decides c.args.n _ c.args.terms.now c.args.orders.now 9 (ready-last c.requires) (omega arith)
-    (rw (ne_eqb _ _ c.if-n-eq-LEADER.false, eq-eqb _ _ c.if-n-eq-LAST_TERM.true)))
+    rw (ne_eqb _ _ c.if-n-eq-LEADER.false, eq-eqb _ _ c.if-n-eq-LAST_TERM.true)
 
 pub standing-candidate-requires : goal.standing-candidate-requires
 standing-candidate-requires c =

@@ -1,12 +1,11 @@
--- The four that are offered are the entry and three that are none.
-use borrow.Author.Rules.{rules}
+-- What is offered is the one entry.
 use Rattle.record.specs.Deciding.{one_entry}
 use Rattle.finishing.proofs.adding.finish_one.Goals as goal
 
 pub finish_adding-requires : goal.finish_adding-requires
 unfolding one_entry
-finish_adding-requires c = search rules
+finish_adding-requires c = c.requires
 
 pub returns : goal.returns
 unfolding one_entry
-returns c = search rules
+returns c = c.finish_adding.ensures

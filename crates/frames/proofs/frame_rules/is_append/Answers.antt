@@ -1,5 +1,6 @@
--- The clauses are the definition's own, each by its function.
-use Rattle.frames.specs.Laws.{length-listed}
+-- The clauses are the definition's own, each by its function; what is counted is the front of the four places.
+use native.Mathlib.Omega.{arith}
+use Rattle.frames.specs.Laws.{length-listed, listed-take}
 use Rattle.frames.proofs.frame_rules.is_append.Goals as goal
 
 pub returns : goal.returns
@@ -11,4 +12,5 @@ returns c =
       c.is_index-2.ensures,
       c.in_order.ensures,
       length-listed,
+      listed-take c.args.f.entries c.args.f.count (omega arith),
     )

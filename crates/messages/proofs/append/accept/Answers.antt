@@ -4,7 +4,7 @@ use mathlib.Core.Path.{refl, sym, ◌∙◌}
 use borrow.Author.Tests.{ltb-true, ltb-false}
 use Rattle.record.specs.declared.Send.{Send}
 use Rattle.record.specs.Deciding.{messages_of, Aimed}
-use Rattle.record.specs.DecidingLaws.{changed-decides, refuse-decides}
+use Rattle.record.specs.DecidingLaws.{changed-decides}
 use Rattle.messages.specs.AppendLaws.{place-least, accept-held, accept_alarm, accept-adds}
 use Rattle.messages.proofs.append.accept.Goals as goal
 
@@ -30,10 +30,8 @@ cuts_committed-requires c =
 
 pub returns-then-cuts_committed : goal.returns-then-cuts_committed
 returns-then-cuts_committed c =
-    λ orders. rw c.refuse.ensures
-    (refuse-decides c.args.t c.args.entries c.args.terms.now orders 7 c.requires.offered.lent.last (omega arith)
-    (accept_alarm c.args.t c.args.terms.now orders c.args.from c.args.index c.args.commit c.args.entries c.args.count _ (c.search-place.ensures.by_index orders)
-    _ c.following-next.ensures _ c.commit_after.ensures c.if-place-end.false (ltb-true _ _ (sym c.cuts_committed.ensures ∙ c.if-cuts_committed.true))))
+    λ orders. (accept_alarm c.args.t c.args.terms.now orders c.args.from c.args.index c.args.commit c.args.entries c.args.count _ (c.search-place.ensures.by_index orders)
+    _ c.following-next.ensures _ c.commit_after.ensures c.if-place-end.false (ltb-true _ _ (sym c.cuts_committed.ensures ∙ c.if-cuts_committed.true)))
 
 pub overflow_sub-result : goal.overflow_sub-result
 overflow_sub-result c =

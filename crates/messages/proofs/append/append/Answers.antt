@@ -6,15 +6,13 @@ use Rattle.raft.specs.LentLaws.{length-entries_of}
 use Rattle.record.specs.declared.Send.{Send}
 use Rattle.record.specs.Calls.{state_of}
 use Rattle.record.specs.Deciding.{messages_of, Aimed}
-use Rattle.record.specs.DecidingLaws.{changed-decides, refuse-decides, decides_as, becomes_lent}
+use Rattle.record.specs.DecidingLaws.{changed-decides, answers_as, becomes_lent}
 use Rattle.messages.specs.AppendLaws.{append-leads, append-lacks, append-accepts}
 use Rattle.messages.proofs.append.append.Goals as goal
 
 pub returns-then-t-eq-LEADER : goal.returns-then-t-eq-LEADER
 returns-then-t-eq-LEADER c =
-    λ orders. rw c.refuse.ensures
-    (refuse-decides c.args.t c.args.entries c.args.terms.now orders 6 c.requires.lent.last (omega arith)
-    (append-leads (state_of c.args.t c.args.terms.now orders) c.args.from c.args.index c.args.prior c.args.commit _ c.if-t-eq-LEADER.true))
+    λ orders. append-leads (state_of c.args.t c.args.terms.now orders) c.args.from c.args.index c.args.prior c.args.commit _ c.if-t-eq-LEADER.true
 
 pub lacks-requires : goal.lacks-requires
 lacks-requires c =
@@ -35,6 +33,6 @@ accept-requires c =
 
 pub returns : goal.returns
 returns c =
-    λ orders. decides_as (c.accept.ensures orders)
+    λ orders. answers_as _ c.accept.result _ _ _ (c.accept.ensures orders)
     (append-accepts (state_of c.args.t c.args.terms.now orders) c.args.from c.args.index c.args.prior c.args.commit _ c.if-t-eq-LEADER.false
     (sym (c.lacks.ensures orders) ∙ c.if-lacks.false))

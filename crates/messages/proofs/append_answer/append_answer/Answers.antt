@@ -4,7 +4,7 @@ use mathlib.Core.Path.{sym, ◌∙◌}
 use Rattle.record.specs.declared.Send.{Send}
 use Rattle.record.specs.Calls.{state_of}
 use Rattle.record.specs.Deciding.{messages_of, Aimed}
-use Rattle.record.specs.DecidingLaws.{plain-decides, changed-decides, refuse-decides, becomes_lent}
+use Rattle.record.specs.DecidingLaws.{plain-decides, changed-decides, becomes_lent}
 use Rattle.record.specs.GoodLaws.{ready-last}
 use Rattle.messages.specs.AnswerLaws.{answer-unled, answer-past, answer-again, answer-quiet, heard-next, heard_match, heard_ranged, heard-aimed, not-past, past-log}
 use Rattle.messages.proofs.append_answer.append_answer.Goals as goal
@@ -20,10 +20,8 @@ returns-then-t-ne-LEADER c =
 pub returns-then-reply-t : goal.returns-then-reply-t
 returns-then-reply-t c =
     let s = state_of c.args.t c.args.terms.now c.args.orders.now in
-    λ offered. rw c.refuse.ensures
-    (refuse-decides c.args.t offered c.args.terms.now c.args.orders.now 8 (ready-last c.requires.ready) (omega arith)
-    (answer-past s c.args.from c.args.reply c.args.index c.if-t-ne-LEADER.false
-    (past-log c.args.t c.args.terms.now c.args.orders.now c.args.reply c.args.index _ c.if-reply-t.true)))
+    λ offered. answer-past s c.args.from c.args.reply c.args.index c.if-t-ne-LEADER.false
+    (past-log c.args.t c.args.terms.now c.args.orders.now c.args.reply c.args.index _ c.if-reply-t.true)
 
 pub heard-requires : goal.heard-requires
 heard-requires c =

@@ -2,8 +2,7 @@
 use native.Mathlib.Omega.{arith}
 use mathlib.Core.Path.{sym, ◌∙◌}
 use Rattle.record.specs.Calls.{state_of}
-use Rattle.record.specs.DecidingLaws.{refuse-decides, decides_as}
-use Rattle.record.specs.GoodLaws.{ready-last}
+use Rattle.record.specs.DecidingLaws.{answers_as}
 use Rattle.messages.specs.Required.{brought}
 use Rattle.messages.specs.DeliverLaws.{from-box, arrive-not, arrive_for, read-delivered}
 use Rattle.messages.proofs.deliver.arrive.Goals as goal
@@ -14,9 +13,8 @@ is_for-requires c =
 
 pub returns-then-not-is_for : goal.returns-then-not-is_for
 returns-then-not-is_for c =
-    rw c.refuse.ensures
-    (refuse-decides c.args.n (brought c.args.f) c.args.terms.now c.args.orders.now 2 (ready-last c.requires.ready) (omega arith)
-    (arrive-not c.args.f (state_of c.args.n c.args.terms.now c.args.orders.now) (sym (c.is_for.ensures c.args.terms.now c.args.orders.now) ∙ c.if-not-is_for.true)))
+    let other = sym (c.is_for.ensures c.args.terms.now c.args.orders.now) ∙ c.if-not-is_for.true in
+    arrive-not c.args.f (state_of c.args.n c.args.terms.now c.args.orders.now) other
 
 pub deliver-requires : goal.deliver-requires
 deliver-requires c =
@@ -24,5 +22,5 @@ deliver-requires c =
 
 pub returns : goal.returns
 returns c =
-    decides_as c.deliver.ensures
+    answers_as _ c.deliver.result _ _ _ c.deliver.ensures
     (arrive_for c.args.f (state_of c.args.n c.args.terms.now c.args.orders.now) (sym (c.is_for.ensures c.args.terms.now c.args.orders.now) ∙ c.if-not-is_for.false))

@@ -5,7 +5,7 @@ use Rattle.rules.proofs.answers.match_after.Goals as goal
 
 pub returns-then-reply-eq1 : goal.returns-then-reply-eq1
 unfolding match_after
-returns-then-reply-eq1 c = rw (eq-eqb _ _ c.if-reply-eq1.true, c.larger.ensures)
+returns-then-reply-eq1 c = rw (eq-eqb _ _ c.if-reply-eq1.true, c.max.ensures)
 
 pub returns : goal.returns
 unfolding match_after

@@ -5,8 +5,8 @@ use Rattle.rules.proofs.answers.next_heard.Goals as goal
 
 pub returns-then-reply-eq1 : goal.returns-then-reply-eq1
 unfolding next_heard
-returns-then-reply-eq1 c = rw (eq-eqb _ _ c.if-reply-eq1.true, c.larger.ensures)
+returns-then-reply-eq1 c = rw (eq-eqb _ _ c.if-reply-eq1.true, c.max.ensures)
 
 pub returns : goal.returns
 unfolding next_heard
-returns c = rw (ne_eqb _ _ c.if-reply-eq1.false, c.larger-2.ensures)
+returns c = rw (ne_eqb _ _ c.if-reply-eq1.false, c.max-2.ensures)
