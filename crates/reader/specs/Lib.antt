@@ -1,3 +1,2 @@
 -- Standard input in blocks.
 pub mod Blocks
-pub mod KeepLaws

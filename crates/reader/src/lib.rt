@@ -1,7 +1,7 @@
 // An input, the programs' standard input, in large blocks. The bytes of a line that is not whole yet stay at the block's start until the rest has come.
 #![tactic(auto)]
 
-ghost use Rattle.std.specs.Prelude.{◌+◌, ◌-◌, ◌≤◌, ◌≡◌, length, take, drop};
+ghost use Rattle.std.specs.Prelude.{◌+◌, ◌-◌, ◌≤◌, ◌<◌, ◌≡◌, IfSome, length, take, drop};
 ghost use Rattle.digits.specs.Room.{over};
 ghost use Rattle.text.specs.Lines.{first_line};
 ghost use Rattle.reader.specs.Blocks.{shortened};
@@ -14,10 +14,7 @@ pub fn more<R: Read>(input: &mut R, block: &mut [u8], held: usize) -> usize
     ensures lower_bound { held ≤ result }
     ensures upper_bound { result ≤ length block.old }
 {
-    match input.read(&mut block[held..]) {
-        Ok(got) => held + got,
-        Err(_) => held,
-    }
+    held + input.read(&mut block[held..]).unwrap_or(0)
 }
 
 // Moves what the block holds from a place on to its start, and answers how much that is.
@@ -27,13 +24,8 @@ pub fn keep(block: &mut [u8], from: usize, held: usize) -> usize
     ensures value { result ≡ held - from }
     ensures block_after { block.new ≡ over block.old 0 (take (held - from) (drop from block.old)) }
 {
-    let left = held - from;
-    let mut i = 0;
-    while i < left {
-        block[i] = block[from + i];
-        i += 1;
-    }
-    left
+    block.copy_within(from..held, 0);
+    held - from
 }
 
 // A block that is full with no line feed in it: its line is too long for any meaning, whatever comes. So only its first bytes stay, more than any line has.
@@ -50,33 +42,33 @@ pub fn shorten(block: &[u8], held: usize) -> usize
     1024
 }
 
-// A line at the block's start: where it ends, and how many bytes the block holds. The end is 0 where the input ended before the line was whole.
+// A line at the block's start: where it ends, and how many bytes the block holds.
 #[derive(Drop)]
 pub struct Line {
     pub end: usize,
     pub held: usize,
 }
 
-// The line at the block's start, read on until it is whole. (Which bytes a read brings no contract can say: that it reads on, and when it ends, is tested.)
-pub fn whole_line<R: Read>(input: &mut R, block: &mut [u8], filled: usize) -> Line
+// The line at the block's start, read on until it is whole; none where the input ended before that. (Which bytes a read brings no contract can say: that it reads on, and when
+// it ends, is tested. So of the block nothing is said where there is none.)
+pub fn whole_line<R: Read>(input: &mut R, block: &mut [u8], filled: usize) -> Option<Line>
     requires { filled ≤ length block.old }
-    ensures end_le_held { result.end ≤ result.held }
-    ensures held_in_bounds { result.held ≤ length block.old }
-    ensures end_value { result.end ≡ first_line (take result.held block.new) }
+    ensures end_some { IfSome result (λ line. 0 < line.end) }
+    ensures end_le_held { IfSome result (λ line. line.end ≤ line.held) }
+    ensures held_in_bounds { IfSome result (λ line. line.held ≤ length block.old) }
+    ensures end_value { IfSome result (λ line. line.end ≡ first_line (take line.held block.new)) }
 {
     let mut held = filled;
-    let mut turns = u64::MAX;
-    while turns > 0 {
+    for _ in 0..u64::MAX {
         let end = text::line_end(&block[..held], 0);
         if end != 0 {
-            return Line { end, held };
+            return Some(Line { end, held });
         }
-        let kept = shorten(&block[..], held);
+        let kept = shorten(block, held);
         held = more(input, block, kept);
         if held == kept {
             break;
         }
-        turns -= 1;
     }
-    Line { end: 0, held: 0 }
+    None
 }

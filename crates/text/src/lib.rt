@@ -1,36 +1,34 @@
 // Bytes as lines: where a line ends.
 #![tactic(auto)]
 
-ghost use Rattle.std.specs.Prelude.{◌≡◌, ◌+◌, ◌≤◌, length, take, drop};
-ghost use Rattle.text.specs.Lines.{first_line, has_none, Passed};
+ghost use Rattle.std.specs.Prelude.{◌≡◌, ◌==◌, ◌+◌, ◌≤◌, length, drop, position};
+ghost use Rattle.std.specs.List.{take_while};
+ghost use Rattle.text.specs.Lines.{first_line, has_none};
 
-// No line feed among the sixteen bytes from a place on. It looks at all of them, so the compiler takes them at once.
-fn is_plain(bytes: &[u8], at: usize) -> bool
-    requires { at + 16 ≤ length bytes.now }
-    ensures { result ≡ has_none (take 16 (drop at bytes.now)) }
+// No line feed among sixteen bytes. It looks at all of them, so the compiler takes them at once.
+#[tactic(auto, using(crate::specs::LinesLaws::has_none_more), unfolding(crate::specs::Lines::has_none))]
+fn is_plain(bytes: &[u8; 16]) -> bool
+    ensures { result ≡ has_none bytes.now }
 {
     let mut ok = true;
-    let mut i = 0;
-    while i < 16 {
-        ok = ok & (bytes[at + i] != 10);
-        i += 1;
+    for b in bytes {
+        ok = ok & (*b != 10);
     }
     ok
 }
 
-// Past as many sixteens without a line feed as there are.
-fn past_plain(bytes: &[u8], at: usize) -> usize
-    requires { at ≤ length bytes.now }
-    ensures { Passed bytes.now at result }
+// How many sixteens there are without a line feed, before the first that has one.
+fn plain_front(sixteens: &[[u8; 16]]) -> usize
+    ensures { result ≡ length (take_while has_none sixteens.now) }
 {
-    let mut i = at;
-    while 16 <= bytes.len() - i {
-        if !is_plain(bytes, i) {
-            return i;
-        }
-        i += 16;
-    }
-    i
+    sixteens.iter().take_while(|s| is_plain(s)).count()
+}
+
+// The place of the first line feed, byte by byte.
+fn line_feed(bytes: &[u8]) -> Option<usize>
+    ensures { result ≡ position (λ b. b == 10) bytes.now }
+{
+    bytes.iter().position(|b| *b == 10)
 }
 
 // The place behind the first line feed from a place on, or that place where there is none.
@@ -38,12 +36,11 @@ pub fn line_end(bytes: &[u8], at: usize) -> usize
     requires { at ≤ length bytes.now }
     ensures { result ≡ at + first_line (drop at bytes.now) }
 {
-    let mut i = past_plain(bytes, at);
-    while i < bytes.len() {
-        if bytes[i] == 10 {
-            return i + 1;
-        }
-        i += 1;
+    let rest = &bytes[at..];
+    let (sixteens, _) = rest.as_chunks::<16>();
+    let plain = 16 * plain_front(sixteens);
+    match line_feed(&rest[plain..]) {
+        Some(more) => at + plain + more + 1,
+        None => at,
     }
-    at
 }
