@@ -1,5 +1,6 @@
 -- A message as 17 numbers. Assumes nothing.
-use Rattle.std.specs.Prelude.{ℕ, ◌%◌, Bool, ◌&&◌, List, [], ◌∷◌, ltb, get_or, set}
+use Rattle.std.specs.Prelude.{ℕ, ◌+◌, ◌%◌, Bool, ◌&&◌, List, [], ◌∷◌, ltb, get_or, set}
+use Rattle.frames.specs.declared.Entry.{Entry}
 use Rattle.frames.specs.declared.Fields.{Fields}
 use Rattle.frames.specs.Fields.{no_entry}
 
@@ -20,6 +21,10 @@ in_range n =
     ltb (get_or n 0 0) 256 && ltb (get_or n 1 0) 256 && ltb (get_or n 2 0) 256 && ltb (get_or n 3 0) 4294967296 && ltb (get_or n 4 0) 65536
     && ltb (get_or n 5 0) 4294967296 && ltb (get_or n 6 0) 65536 && ltb (get_or n 7 0) 256 && ltb (get_or n 8 0) 256
     && ltb (get_or n 9 0) 4294967296 && ltb (get_or n 11 0) 4294967296 && ltb (get_or n 13 0) 4294967296 && ltb (get_or n 15 0) 4294967296
+
+-- The entry whose two numbers begin at a place.
+abbrev pub entry_at : List ℕ → ℕ → Entry
+entry_at n at = record { term = get_or n at 0 % 4294967296; order = get_or n (at + 1) 0 }
 
 -- The fields that the numbers are. (The remainders change nothing where the numbers are in range.)
 abbrev pub fields_in : List ℕ → Fields

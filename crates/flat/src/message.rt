@@ -1,7 +1,7 @@
 // A message as 17 numbers: kind, from, to, term, index, prior, commit, reply, count, and a term and an order for each of
 // four entries, with 0 for what it does not have.
-ghost use Rattle.std.specs.Prelude.{◌≡◌};
-ghost use Rattle.flat.specs.Message.{in_range, fields_in, flat};
+ghost use Rattle.std.specs.Prelude.{◌≡◌, ◌<◌, cond, ltb, get_or};
+ghost use Rattle.flat.specs.Message.{entry_at, in_range, fields_in, flat};
 
 use frames::{Entry, Fields};
 
@@ -9,10 +9,6 @@ use frames::{Entry, Fields};
 pub fn put_flat(numbers: &mut [u64; 17], f: Fields)
     ensures { numbers.new ≡ flat f numbers.old }
 {
-    let a = f.entries[0];
-    let b = f.entries[1];
-    let c = f.entries[2];
-    let d = f.entries[3];
     numbers[0] = f.kind as u64;
     numbers[1] = f.from as u64;
     numbers[2] = f.to as u64;
@@ -22,66 +18,46 @@ pub fn put_flat(numbers: &mut [u64; 17], f: Fields)
     numbers[6] = f.commit as u64;
     numbers[7] = f.reply as u64;
     numbers[8] = f.count as u64;
-    numbers[9] = a.term as u64;
-    numbers[10] = a.order;
-    numbers[11] = b.term as u64;
-    numbers[12] = b.order;
-    numbers[13] = c.term as u64;
-    numbers[14] = c.order;
-    numbers[15] = d.term as u64;
-    numbers[16] = d.order;
+    numbers[9] = f.entries[0].term as u64;
+    numbers[10] = f.entries[0].order;
+    numbers[11] = f.entries[1].term as u64;
+    numbers[12] = f.entries[1].order;
+    numbers[13] = f.entries[2].term as u64;
+    numbers[14] = f.entries[2].order;
+    numbers[15] = f.entries[3].term as u64;
+    numbers[16] = f.entries[3].order;
 }
 
-// Each number fits the field that it is for.
-pub fn in_range(n: &[u64; 17]) -> bool
-    ensures { result ≡ in_range n.now }
+// An entry's two numbers, from a place on.
+fn entry_in(n: &[u64; 17], at: usize) -> Option<Entry>
+    requires { at < 16 }
+    ensures { result ≡ cond (ltb (get_or n.now at 0) 4294967296) (Some (entry_at n.now at)) None }
 {
-    (n[0] < 256)
-        & (n[1] < 256)
-        & (n[2] < 256)
-        & (n[3] < 4294967296)
-        & (n[4] < 65536)
-        & (n[5] < 4294967296)
-        & (n[6] < 65536)
-        & (n[7] < 256)
-        & (n[8] < 256)
-        & (n[9] < 4294967296)
-        & (n[11] < 4294967296)
-        & (n[13] < 4294967296)
-        & (n[15] < 4294967296)
+    Some(Entry {
+        term: u32::try_from(n[at]).ok()?,
+        order: n[at + 1],
+    })
 }
 
-// The fields that the numbers are. (The remainders change nothing where the numbers are in range.)
-pub fn fields_in(n: &[u64; 17]) -> Fields
-    ensures { result ≡ fields_in n.now }
+// The fields that the numbers are, where each fits the field that it is for.
+pub fn fields_in(n: &[u64; 17]) -> Option<Fields>
+    ensures { result ≡ cond (in_range n.now) (Some (fields_in n.now)) None }
 {
-    let a = Entry {
-        term: (n[9] % 4294967296) as u32,
-        order: n[10],
-    };
-    let b = Entry {
-        term: (n[11] % 4294967296) as u32,
-        order: n[12],
-    };
-    let c = Entry {
-        term: (n[13] % 4294967296) as u32,
-        order: n[14],
-    };
-    let d = Entry {
-        term: (n[15] % 4294967296) as u32,
-        order: n[16],
-    };
-    let entries = [a, b, c, d];
-    Fields {
-        kind: (n[0] % 256) as u8,
-        from: (n[1] % 256) as u8,
-        to: (n[2] % 256) as u8,
-        term: (n[3] % 4294967296) as u32,
-        index: (n[4] % 65536) as u16,
-        prior: (n[5] % 4294967296) as u32,
-        commit: (n[6] % 65536) as u16,
-        reply: (n[7] % 256) as u8,
-        count: (n[8] % 256) as u8,
-        entries,
-    }
+    Some(Fields {
+        kind: u8::try_from(n[0]).ok()?,
+        from: u8::try_from(n[1]).ok()?,
+        to: u8::try_from(n[2]).ok()?,
+        term: u32::try_from(n[3]).ok()?,
+        index: u16::try_from(n[4]).ok()?,
+        prior: u32::try_from(n[5]).ok()?,
+        commit: u16::try_from(n[6]).ok()?,
+        reply: u8::try_from(n[7]).ok()?,
+        count: u8::try_from(n[8]).ok()?,
+        entries: [
+            entry_in(n, 9)?,
+            entry_in(n, 11)?,
+            entry_in(n, 13)?,
+            entry_in(n, 15)?,
+        ],
+    })
 }
