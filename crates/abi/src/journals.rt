@@ -2,25 +2,27 @@
 ghost use Rattle.abi.specs.Journals.{StoresOpen, FlatOpens, StoresReplay, FlatReplays};
 
 use flat::{box_in, box_range, put_box};
-use opening::{Opened, Replayed};
+use frames::Refusal;
+use opening::{Opened, Unopened};
 use record::Record;
 
 // The answer's number; where it is 0, the record's numbers and the bytes are stored, where it is 10, the line's number.
-fn put_opened(n: &mut [u64; 22], sizes: &mut [u64; 2], o: Opened) -> u8
+fn put_opened(n: &mut [u64; 22], sizes: &mut [u64; 2], o: Result<Opened, Unopened>) -> u8
     ensures { StoresOpen o n.old sizes.old result n.new sizes.new }
 {
-    let refusal = o.refusal;
-    if refusal == 0 {
-        let state = o.state;
-        put_box(n, state);
-        sizes[0] = o.bytes as u64;
-        return 0;
+    match o {
+        Ok(found) => {
+            put_box(n, found.state);
+            sizes[0] = found.bytes as u64;
+            0
+        }
+        Err(why) => {
+            if let Unopened::BadLine { line } = why {
+                sizes[1] = line as u64;
+            }
+            why.refusal().number()
+        }
     }
-    if refusal == 10 {
-        sizes[1] = o.fault as u64;
-        return 10;
-    }
-    refusal
 }
 
 // Opens a whole journal.
@@ -41,16 +43,16 @@ pub extern "C" fn journal_open(
 }
 
 // The answer's number; where it is 0, the record's numbers are stored.
-fn put_replayed(n: &mut [u64; 22], o: Replayed) -> u8
+fn put_replayed(n: &mut [u64; 22], o: Result<Record, Refusal>) -> u8
     ensures { StoresReplay o n.old result n.new }
 {
-    let refusal = o.refusal;
-    if refusal == 0 {
-        let state = o.state;
-        put_box(n, state);
-        return 0;
+    match o {
+        Ok(state) => {
+            put_box(n, state);
+            0
+        }
+        Err(refusal) => refusal.number(),
     }
-    refusal
 }
 
 // Replays one whole line, with its line feed, over the record that the numbers are; 12 where one does not fit its field.

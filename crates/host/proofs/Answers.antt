@@ -1,5 +1,5 @@
 -- What no call answers in a host's run: 6, 7, 8 and 12; 5 where room enough is lent; of openings 10. Assumes nothing.
-use Rattle.std.specs.Prelude.{ℕ, ◌≤◌, ◌<◌, ◌≡◌, refl, Bool, true, false, cond, List, ◌⊎◌, length}
+use Rattle.std.specs.Prelude.{ℕ, ◌≤◌, ◌<◌, ◌≡◌, refl, Bool, true, false, cond, List, ◌⊎◌, length, Ok, Err}
 use Rattle.std.proofs.Common.{arith, sym, ap, ◌∙◌, true≢false, inl, inr, length-take, le-ltb}
 use Rattle.frames.specs.Message.{Message}
 use Rattle.raft.specs.Record.{State, good}
@@ -17,6 +17,8 @@ use Rattle.record.specs.declared.Record.{Record}
 use Rattle.record.specs.Calls.{Called, untouched, fit, written, run, call}
 use Rattle.record.specs.ExactlyWhen.{Asked, no_frame, state, overflows, breaks_a_rule}
 use Rattle.record.specs.ExactlyWhenLaws.{given_exactly_when}
+use Rattle.opening.specs.declared.Opened.{Opened}
+use Rattle.opening.specs.declared.Unopened.TheVariants.{NoHead}
 use Rattle.host.specs.Host.{Running, Box, on, off, Call, Opening}
 use Rattle.host.specs.CallLaws.{record_of_box, asked, answered, open_found, open_headless}
 use Rattle.host.specs.HeadLaws.{torn-headless}
@@ -99,11 +101,12 @@ no_alarm mask a g i b r c = (
 
 -- A file opens, or there is less than a head on it.
 pub opens-or-not : (mask i : ℕ) (disk : List ℕ) (x : Box) (a : Site) → x ≡ off disk → Stands mask i x (a.seat i) → (c : Opening i disk)
-    → (c.answer.refusal ≡ 0) ⊎ ((c.answer.refusal ≡ 11) × (length disk < length (head i mask)))
+    → ((found : Opened) × (c.answer ≡ Ok found)) ⊎ ((c.answer ≡ Err NoHead) × (length disk < length (head i mask)))
 opens-or-not mask i disk (on b) a e s c = absurd (let never : ◌≡◌ {A = ℕ} 0 1 = cc in omega arith)
 opens-or-not mask i disk (off other) a e (inl d) c =
     let same : other ≡ disk = cc in
-    inl (open_found c _ _ (rw same at d.opens)).0
+    let found = open_found c _ _ (rw same at d.opens) in
+    inl (found.0, found.1)
 opens-or-not mask i disk (off other) a e (inr u) c =
     let same : other ≡ disk = cc in
     let torn = sym same ∙ u.torn in

@@ -1,5 +1,5 @@
 -- Demand 3 of a host, in terms of the calls: whatever a host does with our calls, its disks and its network, within `Host`. Assumes nothing.
-use Rattle.std.specs.Prelude.{ℕ, suc, ◌≤◌, ◌<◌, ◌≡◌, List, ◌⊎◌, length}
+use Rattle.std.specs.Prelude.{ℕ, suc, ◌≤◌, ◌<◌, ◌≡◌, List, ◌⊎◌, length, Ok, Err}
 use Rattle.std.proofs.Common.{sym, ap, subst, ◌∙◌}
 use Rattle.frames.specs.declared.Entry.{Entry}
 use Rattle.raft.specs.Record.{handed_out}
@@ -9,6 +9,8 @@ use Rattle.history.specs.Begins.{Begins, OneBegins}
 use Rattle.safety.specs.Book.{book, below}
 use Rattle.safety.specs.Demand3.{Demand3}
 use Rattle.record.specs.Calls.{handed}
+use Rattle.opening.specs.declared.Opened.{Opened}
+use Rattle.opening.specs.declared.Unopened.TheVariants.{NoHead}
 use Rattle.host.specs.Host.{Running, on, off, Host, nothing, Call, Opening, HostRun, run_both}
 use Rattle.host.specs.Seen.{Leads, log_in, handed_by, seen, turned_in, hosts}
 use Rattle.host.specs.HostStands.{Runs, Stands}
@@ -46,7 +48,7 @@ pub record HostSafe (mask : ℕ) : Type 0 where
   pub hands_out : (h : Host) → HostRun mask nothing h → (i : ℕ) (b : Running) → h.box i ≡ on b → (handed b.node.state b.terms b.orders).refusal ≡ 0
   -- and whatever byte power failed at, a file opens, or no head was ever whole on it: 10 is never answered.
   pub opens : (h : Host) → HostRun mask nothing h → (i : ℕ) (disk : List ℕ) → h.box i ≡ off disk → (c : Opening i disk)
-      → (c.answer.refusal ≡ 0) ⊎ ((c.answer.refusal ≡ 11) × (length disk < length (head i mask)))
+      → ((found : Opened) × (c.answer ≡ Ok found)) ⊎ ((c.answer ≡ Err NoHead) × (length disk < length (head i mask)))
 
 -- ---- that it is so
 

@@ -1,6 +1,6 @@
 -- The other way round: **every run of a site is one of a host,** for each call answers, and with room enough it answers 0 where the step is done. So `Host` leaves out nothing
 -- that demand 3's runs allow, and what is claimed of hosts is not empty. Assumes nothing.
-use Rattle.std.specs.Prelude.{ℕ, ◌+◌, ◌<◌, ◌≡◌, true, length, take}
+use Rattle.std.specs.Prelude.{ℕ, ◌+◌, ◌<◌, ◌≡◌, true, length, take, Result, Ok, Err}
 use Rattle.std.proofs.Common.{le_refl, arith, sym, ap, subst, ◌∙◌, inl, inr, le-leb}
 use Rattle.std.proofs.Math.Path.{refl}
 use mathlib.Core.List.{List, [], ◌++◌}
@@ -18,9 +18,12 @@ use Rattle.safety.specs.Park.{Comes, frames}
 use Rattle.safety.specs.Disks as disks
 use Rattle.safety.specs.Disks.{Seat, Site, built, Started, written, seated, Happens, Goes, goes_both}
 use Rattle.safety.proofs.DisksLaws.{Stored, awaits, lives, life_started, opened-lives, built-mirrors, goes_on}
-use Rattle.record.specs.Calls.{state_of, fit, run, call, begun}
+use Rattle.record.specs.Calls.{state_of, record_of, fit, run, call, begun}
 use Rattle.record.specs.Calls as calls
-use Rattle.opening.specs.Calls.{opens}
+use Rattle.opening.specs.declared.Opened.{Opened}
+use Rattle.opening.specs.declared.Unopened.{Unopened}
+use Rattle.opening.specs.declared.Unopened.TheVariants.{NoHead, BadLine}
+use Rattle.opening.specs.Calls.{told_open, opening_by, opens}
 use Rattle.host.specs.Host.{Running, Box, on, off, Host, nothing, Call, line_in, frames_in, Start, Opening, at_once, Acts, Turns, turns, HostRun, stays, goes, run_both}
 use Rattle.host.specs.Host as host
 use Rattle.host.specs.CallLaws.{record_of_box, call-steps, open_found, open_headless}
@@ -61,10 +64,30 @@ the_start mask i journal =
     }
 
 -- An opening, into any arrays.
+the_answer : journal.Opened → Result Opened Unopened
+the_answer (journal.opened s n) = Ok (record { state = record_of s; bytes = n })
+the_answer journal.headless = Err NoHead
+the_answer (journal.broken line) = Err (BadLine line)
+
+told : (o : journal.Opened) (terms orders : List ℕ) → told_open (the_answer o) ≡ (opening_by o terms orders).answer
+unfolding the_answer opening_by
+told (journal.opened s n) terms orders = refl
+told journal.headless terms orders = refl
+told (journal.broken line) terms orders = refl
+
 the_opening : (i : ℕ) (disk terms orders : List ℕ) → Opening i disk
+unfolding opens
 the_opening i disk terms orders =
     let x = opens i disk terms orders in
-    record { terms = terms; orders = orders; answer = x.answer; terms_left = x.terms; orders_left = x.orders; contract = refl }
+    let o = journal.opening i disk in
+    record {
+      terms = terms;
+      orders = orders;
+      answer = the_answer o;
+      terms_left = x.terms;
+      orders_left = x.orders;
+      contract = ap (λ a. record { answer = a; terms = x.terms; orders = x.orders }) (told o terms orders);
+    }
 
 -- a start with room for its head answers 0,
 start_0 : (mask i : ℕ) → is_membership i mask ≡ true → (the_start mask i (head i mask)).answer.refusal ≡ 0
@@ -114,7 +137,8 @@ module _ (mask : ℕ) (h : Host) (a : Site) (g : Goes mask (built mask) a) (s : 
       go (on b) e r = record { on_with = record { host = h; run = stays; stands = s }; box = b; is_on = e }
       go (off disk) e (inl d) =
           let c = the_opening i disk [] [] in
-          let back = at_once c (open_found c _ _ d.opens).0 in
+          let found = open_found c _ _ d.opens in
+          let back = at_once c found.0 found.1 in
           woken (off disk) e _ (host.comes_back disk _ _ _ _ back) (on-back mask a g i disk d back)
       go (off disk) e (inr u) = absurd (omega (arith, u.place, up))
 
@@ -130,7 +154,7 @@ module _ (mask : ℕ) (h : Host) (a : Site) (g : Goes mask (built mask) a) (s : 
       go (off disk) e (inr u) = (disk, e, u)
 
   -- and opens with 11.
-  the_11 : (disk : List ℕ) → Unstarted mask i disk (a.seat i) → (the_opening i disk [] []).answer.refusal ≡ 11
+  the_11 : (disk : List ℕ) → Unstarted mask i disk (a.seat i) → (the_opening i disk [] []).answer ≡ Err NoHead
   the_11 disk u =
       open_headless (the_opening i disk [] []) (ap (journal.opening i) u.torn ∙ torn-headless i mask u.count u.short)
 

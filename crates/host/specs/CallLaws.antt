@@ -1,5 +1,5 @@
 -- What a start, a call and an opening hand to the host, once their contracts hold: the definitions that demand 3's runs are made of. Assumes nothing.
-use Rattle.std.specs.Prelude.{ℕ, ◌+◌, ◌≡◌, refl, true, List, ◌⊎◌, length, take, drop}
+use Rattle.std.specs.Prelude.{ℕ, ◌+◌, ◌≡◌, refl, true, List, ◌⊎◌, length, take, drop, Ok, Err}
 use Rattle.std.proofs.Common.{arith, sym, subst, ◌∙◌, true≢false, inl, inr, take_at}
 use Rattle.std.proofs.Math.Path.{ap}
 use Rattle.digits.specs.Room.{over}
@@ -14,13 +14,16 @@ use Rattle.journal.specs.Opening as journal
 use Rattle.safety.specs.Park.{Comes, frames}
 use Rattle.safety.specs.Split.{room-is-frames}
 use Rattle.record.specs.declared.Record.{Record}
-use Rattle.record.specs.Calls.{state_of, Called, Begun}
+use Rattle.record.specs.Calls.{state_of, record_of, Called, Begun}
 use Rattle.record.specs.ExactlyWhen.{Asked, no_frame, Answers}
 use Rattle.record.specs.ExactlyWhenLaws.{given_exactly_when}
 use Rattle.record.specs.SameLaws.{next-lent}
 use Rattle.record.specs.NextRecord.{Fresh, begun_fresh}
 use Rattle.node.specs.NextRecord.{next_record, nothing-changed}
+use Rattle.opening.specs.declared.Opened.{Opened}
+use Rattle.opening.specs.declared.Unopened.TheVariants.{NoHead, BadLine}
 use Rattle.opening.specs.Calls as calls
+use Rattle.opening.specs.ToldLaws.{told_open-one}
 use Rattle.opening.specs.OpenedExactly.{opened_record}
 use Rattle.host.specs.Host.{Running, Call, line_in, frames_in, Start, head_in, Opening, Back, at_once, in_pieces}
 use Rattle.host.specs.PiecesLaws.{pieces_open}
@@ -109,35 +112,37 @@ start-fresh {mask} {i} c z =
 
 module _ {i : ℕ} {disk : List ℕ} (c : Opening i disk) where
   by : {r : journal.Opened} → journal.opening i disk ≡ r
-      → ◌≡◌ {A = calls.Opening} (record { answer = c.answer; terms = c.terms_left; orders = c.orders_left }) (calls.opening_by r c.terms c.orders)
+      → ◌≡◌ {A = calls.Opening} (record { answer = calls.told_open c.answer; terms = c.terms_left; orders = c.orders_left }) (calls.opening_by r c.terms c.orders)
   unfolding calls.opens
   by e = c.contract ∙ ap (λ (x : journal.Opened). calls.opening_by x c.terms c.orders) e
 
-  -- Of a file that opens, it answers 0 and hands over the record and the byte count.
+  -- Of a file that opens, it answers the record and the byte count.
   pub open_found : (s : State) (n : ℕ) → journal.opening i disk ≡ journal.opened s n
-      → (c.answer.refusal ≡ 0) × (state_of c.answer.state c.terms_left c.orders_left ≡ s) × (c.answer.bytes ≡ n)
+      → (found : Opened) × (c.answer ≡ Ok found) × (state_of found.state c.terms_left c.orders_left ≡ s) × (found.bytes ≡ n)
   unfolding calls.opening_by
   open_found s n e =
       let answer = ap (λ (x : calls.Opening). x.answer) (by e) in
       let terms = ap (λ (x : calls.Opening). x.terms) (by e) in
       let orders = ap (λ (x : calls.Opening). x.orders) (by e) in (
-        ap (λ x. x.refusal) answer,
-        rw (answer, terms, orders) (next-lent s c.terms c.orders),
-        ap (λ x. x.bytes) answer,
+        record { state = record_of s; bytes = n },
+        told_open-one c.answer (Ok (record { state = record_of s; bytes = n })) answer,
+        rw (terms, orders) (next-lent s c.terms c.orders),
+        refl,
       )
 
-  -- Of one without a head it answers 11.
-  pub open_headless : journal.opening i disk ≡ journal.headless → c.answer.refusal ≡ 11
+  -- Of one without a head it answers so, 11.
+  pub open_headless : journal.opening i disk ≡ journal.headless → c.answer ≡ Err NoHead
   unfolding calls.opening_by
-  open_headless e = ap (λ (x : calls.Opening). x.answer.refusal) (by e)
+  open_headless e = told_open-one c.answer (Err NoHead) (ap (λ (x : calls.Opening). x.answer) (by e))
 
-  -- Of one that breaks a rule it answers 10 and the line's number.
-  pub open_broken : (n : ℕ) → journal.opening i disk ≡ journal.broken n → (c.answer.refusal ≡ 10) × (c.answer.fault ≡ n)
+  -- Of one that breaks a rule it answers so, 10, and the line's number.
+  pub open_broken : (n : ℕ) → journal.opening i disk ≡ journal.broken n → c.answer ≡ Err (BadLine n)
   unfolding calls.opening_by
-  open_broken n e = (ap (λ (x : calls.Opening). x.answer.refusal) (by e), ap (λ (x : calls.Opening). x.answer.fault) (by e))
+  open_broken n e = told_open-one c.answer (Err (BadLine n)) (ap (λ (x : calls.Opening). x.answer) (by e))
 
 -- Whichever way a host comes back, it has what opening finds.
 pub back-opens : {i : ℕ} {disk : List ℕ} {b : Record} {terms orders : List ℕ} {place : ℕ} → Back i disk b terms orders place
     → journal.opening i disk ≡ journal.opened (state_of b terms orders) place
-back-opens {i} {disk} (at_once c z) = opened_record i disk c.terms c.orders c.answer c.terms_left c.orders_left c.contract z
+back-opens {i} {disk} (at_once c found e) =
+    opened_record i disk c.terms c.orders (Ok found) c.terms_left c.orders_left (rw e at c.contract) refl
 back-opens {i} {disk} (in_pieces b terms orders place count p e) = pieces_open i disk b terms orders place count p e

@@ -1,6 +1,6 @@
 -- A host, and all that it may do with its boxes: our calls, as their contracts say them, its disks and its network. The numbers are those of docs/HOST.md, which
 -- asks for what stands beside them. Assumes nothing.
-use Rattle.std.specs.Prelude.{ℕ, ◌+◌, ◌≡◌, true, List, [], ◌++◌, ◌⊎◌, take, drop}
+use Rattle.std.specs.Prelude.{ℕ, ◌+◌, ◌≡◌, true, List, [], ◌++◌, ◌⊎◌, take, drop, Result, Ok, Err}
 use Rattle.digits.specs.Room.{over}
 use Rattle.raft.specs.Event.{Event}
 use Rattle.journal.specs.Lines.{lines}
@@ -13,6 +13,8 @@ use Rattle.node.specs.declared.Started.{Started}
 use Rattle.node.specs.declared.Answer.{Answer}
 use Rattle.node.specs.Outside.{Starts, Calls}
 use Rattle.opening.specs.declared.Opened.{Opened}
+use Rattle.opening.specs.declared.Unopened.{Unopened}
+use Rattle.opening.specs.declared.Unopened.TheVariants.{NoHead}
 use Rattle.opening.specs.Calls.{Opens}
 use Rattle.host.specs.Pieces.{Passed}
 
@@ -81,14 +83,14 @@ head_in c = take c.answer.bytes c.journal_left
 pub record Opening (i : ℕ) (disk : List ℕ) : Type 0 where
   pub terms : List ℕ
   pub orders : List ℕ
-  pub answer : Opened
+  pub answer : Result Opened Unopened
   pub terms_left : List ℕ
   pub orders_left : List ℕ
   pub contract : Opens i disk terms orders answer terms_left orders_left
 
 -- What a host has from a file, where it comes back: the struct, the arrays and the place, by `open` of the whole, or in pieces until no whole line is left.
 pub data Back (i : ℕ) (disk : List ℕ) : Record → (terms orders : List ℕ) → (place : ℕ) → Type 0 where
-  at_once : (c : Opening i disk) → c.answer.refusal ≡ 0 → Back i disk c.answer.state c.terms_left c.orders_left c.answer.bytes
+  at_once : (c : Opening i disk) (found : Opened) → c.answer ≡ Ok found → Back i disk found.state c.terms_left c.orders_left found.bytes
   in_pieces : (b : Record) (terms orders : List ℕ) (place count : ℕ) → Passed i disk b terms orders place count → lines (drop place disk) ≡ []
       → Back i disk b terms orders place
 
@@ -97,7 +99,7 @@ pub data Back (i : ℕ) (disk : List ℕ) : Record → (terms orders : List ℕ)
 -- Box i, where all are started with one mask and these frames are in the network: the box before, behind it, and the frames that leave.
 pub data Acts (mask i : ℕ) (network : List (List ℕ)) : Box → Box → List (List ℕ) → Type 0 where
   -- 2, 10: a file that opens with 11 has no head; the box is started, and the head is the file's first line. Any arrays are lent to it from then on.
-  starts : (disk : List ℕ) (o : Opening i disk) → o.answer.refusal ≡ 11 → (c : Start mask i) → c.answer.refusal ≡ 0 → (terms orders : List ℕ)
+  starts : (disk : List ℕ) (o : Opening i disk) → o.answer ≡ Err NoHead → (c : Start mask i) → c.answer.refusal ≡ 0 → (terms orders : List ℕ)
       → Acts mask i network (off disk) (on (record {
         node = c.answer.node;
         terms = terms;
@@ -106,10 +108,10 @@ pub data Acts (mask i : ℕ) (network : List (List ℕ)) : Box → Box → List 
         place = c.answer.bytes;
       })) []
   -- Power fails when so many bytes of the head are written.
-  start_fails : (disk : List ℕ) (o : Opening i disk) → o.answer.refusal ≡ 11 → (c : Start mask i) → c.answer.refusal ≡ 0 → (k : ℕ)
+  start_fails : (disk : List ℕ) (o : Opening i disk) → o.answer ≡ Err NoHead → (c : Start mask i) → c.answer.refusal ≡ 0 → (k : ℕ)
       → Acts mask i network (off disk) (off (over disk 0 (take k (head_in c)))) []
   -- Before a head is written on such a file, what is on it may be cut off, or a part of it.
-  clears : (disk : List ℕ) (o : Opening i disk) → o.answer.refusal ≡ 11 → (c : Start mask i) → c.answer.refusal ≡ 0 → (k : ℕ)
+  clears : (disk : List ℕ) (o : Opening i disk) → o.answer ≡ Err NoHead → (c : Start mask i) → c.answer.refusal ≡ 0 → (k : ℕ)
       → Acts mask i network (off disk) (off (take k disk)) []
   -- 3: "The line first, then the state, then the messages": a call that answers 0, its line whole.
   steps : (b : Running) (c : Call network b) → c.answer.refusal ≡ 0

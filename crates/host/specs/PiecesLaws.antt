@@ -1,6 +1,6 @@
 -- **Every way of opening is the same opening:** the head, and then lines or blocks, come to what `opening` of the whole file comes to: record, log, byte count, refusal
 -- and line number. Assumes nothing.
-use Rattle.std.specs.Prelude.{ℕ, suc, ◌+◌, ◌≤◌, ◌≡◌, Bool, eqb, take}
+use Rattle.std.specs.Prelude.{ℕ, suc, ◌+◌, ◌≤◌, ◌≡◌, Bool, eqb, take, Ok}
 use Rattle.std.proofs.Math.Nat.{zero-add}
 use Rattle.std.proofs.Common.{add-zero, arith, subst, ◌∙◌, length-append, length-take, take-append-drop, take_all, drop-drop, eqb-true}
 use Rattle.std.proofs.Math.Path.{refl, sym, ap}
@@ -9,6 +9,7 @@ use mathlib.Core.List.{List, [], ◌∷◌, ◌++◌, append_assoc, append-nil}
 use Rattle.std.proofs.Math.ListN.{length, drop}
 use Rattle.std.proofs.Math.Seq.{drop-append-add}
 use Rattle.std.proofs.lemmas.Bool.{eqb-false}
+use Rattle.frames.specs.Refusal.{code}
 use Rattle.raft.specs.Record.{State, fresh}
 use Rattle.raft.specs.Lent.{entries_of}
 use Rattle.raft.proofs.SendLaws.{All}
@@ -20,9 +21,8 @@ use Rattle.journal.proofs.LineSpelling.{line-whole, head-whole}
 use Rattle.journal.specs.Opening.{next, breaks, replayed, opened, headless, broken, go_on, replay, is_head, open_lines, opening}
 use Rattle.journal.proofs.OpeningLaws.{is_head_exactly}
 use Rattle.journal.proofs.OpeningExactly.{next_exactly}
-use Rattle.opening.specs.declared.Replayed as answers
 use Rattle.opening.specs.declared.Block.{Block}
-use Rattle.opening.specs.Calls.{Replaying, replaying, Replays, heading, Blocks, counted, stopped, replay_each, replaying_lines, ReplaysLines}
+use Rattle.opening.specs.Calls.{ReplayedTold, told_replay, Replaying, replaying, Tells, none, heading, told_block, Blocks, counted, stopped, replay_each, replaying_lines, ReplaysLines}
 use Rattle.opening.specs.ReplayCode.{line-breaks, line-goes}
 use Rattle.host.specs.Pieces.{Passed, the_head, a_line, a_block}
 
@@ -221,16 +221,16 @@ module _ (i : ℕ) (disk : List ℕ) where
         }
 
   -- so there the head is passed.
-  at_head : (n : ℕ) (r : answers.Replayed) → r ≡ heading i (take n disk) → r.refusal ≡ 0 → (terms orders : List ℕ)
+  at_head : (n : ℕ) (r : ReplayedTold) → r ≡ heading i (take n disk) → r.refusal ≡ 0 → (terms orders : List ℕ)
       → At i disk r.state terms orders (length (take n disk)) 1
   unfolding heading
   at_head n r e z terms orders = go (is_head i (take n disk)) refl r e z
     where
-      go : (c : Bool) → is_head i (take n disk) ≡ c → (x : answers.Replayed)
+      go : (c : Bool) → is_head i (take n disk) ≡ c → (x : ReplayedTold)
           → x ≡ cond c (record { refusal = 0; state = record_of (fresh i (mask_in (take n disk))) }) (record { refusal = 11; state = record_of (fresh 0 0) })
           → x.refusal ≡ 0 → At i disk x.state terms orders (length (take n disk)) 1
       go true h x p q = rw p (headed_at n h terms orders)
-      go false h x p q = absurd (omega (arith, q, ap (λ (y : answers.Replayed). y.refusal) p))
+      go false h x p q = absurd (omega (arith, q, ap (λ (y : ReplayedTold). y.refusal) p))
 
   module _ (b : Record) (terms orders : List ℕ) (place count : ℕ) (at : At i disk b terms orders place count) (n : ℕ) where
     abbrev bytes : List ℕ
@@ -242,7 +242,7 @@ module _ (i : ℕ) (disk : List ℕ) where
       begun = record { answer = record { refusal = 0; state = b; bytes = 0; lines = 0 }; terms = terms; orders = orders }
 
       abbrev ended : Blocks
-      ended = record { answer = r; terms = terms'; orders = orders' }
+      ended = record { answer = told_block r; terms = terms'; orders = orders' }
 
       leaves : replay_each begun (lines bytes) ≡ ended
       unfolding replaying_lines
@@ -251,7 +251,7 @@ module _ (i : ℕ) (disk : List ℕ) where
       cut : Cut disk place n
       cut = cut_at disk place n
 
-      at_block : r.refusal ≡ 0 → At i disk r.state terms' orders' (place + r.bytes) (count + r.lines)
+      at_block : (told_block r).refusal ≡ 0 → At i disk r.state terms' orders' (place + r.bytes) (count + r.lines)
       at_block z =
           let passed = subst (λ y. AllPassed begun y (lines bytes)) leaves (all_passed begun (lines bytes) (ap (λ (y : Blocks). y.answer.refusal) leaves ∙ z)) in
           let long : length (strung (lines bytes)) ≡ r.bytes = omega (arith, passed.bytes) in
@@ -264,7 +264,7 @@ module _ (i : ℕ) (disk : List ℕ) where
           }
 
       -- none is left behind one that reaches the file's end,
-      pub block_ends : r.refusal ≡ 0 → length (drop place disk) ≤ n → lines (drop (place + r.bytes) disk) ≡ []
+      pub block_ends : (told_block r).refusal ≡ 0 → length (drop place disk) ≤ n → lines (drop (place + r.bytes) disk) ≡ []
       block_ends z l =
           let passed = subst (λ y. AllPassed begun y (lines bytes)) leaves (all_passed begun (lines bytes) (ap (λ (y : Blocks). y.answer.refusal) leaves ∙ z)) in
           let long : length (strung (lines bytes)) ≡ r.bytes = omega (arith, passed.bytes) in
@@ -274,14 +274,14 @@ module _ (i : ℕ) (disk : List ℕ) where
           (none-behind (lines bytes) (lines (drop (place + length (strung (lines bytes))) disk)) (sym (ap lines all) ∙ on))
 
       -- or stops at the line that breaks a rule, which is the one that opening names.
-      pub block_breaks : (r.refusal ≡ 0 → ⊥) → opening i disk ≡ broken (suc (count + r.lines))
+      pub block_breaks : ((told_block r).refusal ≡ 0 → ⊥) → opening i disk ≡ broken (suc (count + r.lines))
       block_breaks z =
           let stop = subst (λ y. OneBreaks begun y (lines bytes)) leaves (one-breaks begun (lines bytes) refl (λ e. z (sym (ap (λ (y : Blocks). y.answer.refusal) leaves) ∙ e))) in
           at.same ∙ ap (replay (whole_bytes disk) (state_of b terms orders) (suc count)) (further-lines disk place (lines bytes) cut.rest cut.whole cut.is)
           ∙ stop.on (whole_bytes disk) (suc count) _ ∙ ap broken (omega (arith, stop.number))
 
     -- One line is passed,
-    module _ (r : answers.Replayed) (terms' orders' : List ℕ) (c : Replays b bytes terms orders r terms' orders') where
+    module _ (r : ReplayedTold) (terms' orders' : List ℕ) (c : Tells b bytes terms orders r terms' orders') where
       line_parts : drop place disk ≡ strung (bytes ∷ []) ++ drop n (drop place disk)
       unfolding strung
       line_parts = sym (take-append-drop n (drop place disk)) ∙ ap (λ (l : List ℕ). l ++ drop n (drop place disk)) (sym (append-nil bytes))
@@ -326,11 +326,11 @@ module _ (i : ℕ) (disk : List ℕ) where
 -- What was passed is what opening has behind it.
 pub passed_at : (i : ℕ) (disk : List ℕ) (b : Record) (terms orders : List ℕ) (place count : ℕ) → Passed i disk b terms orders place count
     → At i disk b terms orders place count
-passed_at i disk b terms orders place count (the_head n r e z t o) = at_head i disk n r e z t o
-passed_at i disk b terms orders place count (a_line c t o p m before n r t' o' e z) =
-    at-line i disk c t o p m (passed_at i disk c t o p m before) n r t' o' e z
+passed_at i disk b terms orders place count (the_head n s e t o) = at_head i disk n (told_replay none (Ok s)) e refl t o
+passed_at i disk b terms orders place count (a_line c t o p m before n s t' o' e) =
+    at-line i disk c t o p m (passed_at i disk c t o p m before) n (told_replay c (Ok s)) t' o' e refl
 passed_at i disk b terms orders place count (a_block c t o p m before n r t' o' e z) =
-    at_block i disk c t o p m (passed_at i disk c t o p m before) n r t' o' e z
+    at_block i disk c t o p m (passed_at i disk c t o p m before) n r t' o' e (ap code z)
 
 -- **Where no whole line is left, the struct and the arrays are the record that opening finds, and the place is its byte count.**
 pub pieces_open : (i : ℕ) (disk : List ℕ) (b : Record) (terms orders : List ℕ) (place count : ℕ) → Passed i disk b terms orders place count
@@ -342,7 +342,7 @@ pieces_open i disk b terms orders place count p e =
     ∙ ap (opened (state_of b terms orders)) (omega (arith, at.left, none-counted (drop place disk) e))
 
 -- **A first line that is no head is answered 11 by both.**
-pub head-refused : (i : ℕ) (disk : List ℕ) (n : ℕ) → Whole (take n disk) → (r : answers.Replayed) → r ≡ heading i (take n disk) → (r.refusal ≡ 0 → ⊥)
+pub head-refused : (i : ℕ) (disk : List ℕ) (n : ℕ) → Whole (take n disk) → (r : ReplayedTold) → r ≡ heading i (take n disk) → (r.refusal ≡ 0 → ⊥)
     → opening i disk ≡ headless
 unfolding opening open_lines heading
 head-refused i disk n w r e z =
@@ -350,7 +350,7 @@ head-refused i disk n w r e z =
     ∙ go (is_head i (take n disk)) (rw e at z)
   where
     go : (c : Bool)
-        → ((cond {A = answers.Replayed} c (record { refusal = 0; state = record_of (fresh i (mask_in (take n disk))) })
+        → ((cond {A = ReplayedTold} c (record { refusal = 0; state = record_of (fresh i (mask_in (take n disk))) })
         (record { refusal = 11; state = record_of (fresh 0 0) })).refusal ≡ 0 → ⊥)
         → cond c (replay (whole_bytes disk) (fresh i (mask_in (take n disk))) 2 (lines (drop n disk))) headless ≡ headless
     go true f = absurd (f refl)

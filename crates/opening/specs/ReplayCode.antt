@@ -1,7 +1,6 @@
 -- One line and all lines, as the code comes to them: the answer, the record's struct and the lent log. Assumes nothing.
 use Rattle.std.specs.Prelude.{ℕ, ◌+◌, ◌-◌, ◌≤◌, ◌<◌, min, ◌≡◌, Bool, cond, ◌&&◌, List, [], ◌∷◌, ◌++◌, leb, length, take, drop, Ok, Err}
-use Rattle.std.proofs.Common.{add-zero, arith, ◌∙◌, true≢false, length-append, length-take, take-append-drop, length-take-le, drop-drop, leb-true}
-use Rattle.std.proofs.Math.Nat.{sub-zero}
+use Rattle.std.proofs.Common.{arith, ◌∙◌, true≢false, length-append, length-take, take-append-drop, length-take-le, drop-drop, leb-true}
 use Rattle.std.proofs.Math.Numerals.{add-one}
 use Rattle.std.proofs.Math.Path.{refl, sym, ap}
 use Rattle.std.proofs.Math.Bool.{true, false, and-false}
@@ -13,7 +12,7 @@ use Rattle.frames.specs.declared.refusal.Refusal.TheVariants.{BadLine}
 use Rattle.frames.specs.Limits.{log_limit, entry_limit}
 use Rattle.frames.specs.Fields.{listed}
 use Rattle.frames.specs.Clauses.{four}
-use Rattle.frames.specs.Laws.{length-listed}
+use Rattle.frames.specs.Laws.{length-listed, listed-take}
 use Rattle.frames.proofs.ReadingLaws.{length-entries}
 use Rattle.text.specs.Lines.{first_line}
 use Rattle.text.specs.LinesLaws.{first-most, end_inside}
@@ -111,19 +110,18 @@ module _ (b : Record) (bytes terms orders : List ℕ) where
     unfolding replayed
     goes = rw (h, ← e, a)
 
-    pub replay-next : {n : Record} {terms' orders' : List ℕ} → Advances b l n
-        → terms' ≡ over terms (l.kept + 0) (terms_of (listed l.entries 0 (l.count - 0)))
-        → orders' ≡ over orders (l.kept + 0) (orders_of (listed l.entries 0 (l.count - 0)))
+    pub replay-next : {n : Record} {terms' orders' : List ℕ} → Advances b l n → l.count ≤ length l.entries
+        → terms' ≡ over terms l.kept (terms_of (take l.count l.entries)) → orders' ≡ over orders l.kept (orders_of (take l.count l.entries))
         → Replays b bytes terms orders (Ok n) terms' orders'
     unfolding replaying replaying_by after restarted
-    replay-next {n} {terms'} {orders'} f t o = leaves ∙ sym (ap (λ (x : Replayed). replaying_by x b terms orders) goes)
+    replay-next {n} {terms'} {orders'} f c t o = leaves ∙ sym (ap (λ (x : Replayed). replaying_by x b terms orders) goes)
       where
         made : n ≡ record_of (after s (line_of l))
         made = record_same n log (long ∙ sym f.last) ∙ ap record_of (f.state log long)
 
         leaves : ◌≡◌ {A = Replaying} (record { answer = record { refusal = 0; state = n }; terms = terms'; orders = orders' })
             (replaying_by (next (after s (line_of l))) b terms orders)
-        leaves = rw (made, t, o, add-zero, sub-zero, stored.0, stored.1)
+        leaves = rw (made, t, o, ← listed-take l.entries l.count c, stored.0, stored.1)
 
 -- ---- what a line leaves
 

@@ -21,7 +21,7 @@ pub fn is_head_shaped(s: &[u8]) -> bool
     if !frame_reader::is_line(s) {
         return false;
     }
-    (digits::get_u8(s, 0) == 1) & (digits::get_u8(s, 2) == 17)
+    (digits::get::<u8>(s, 0) == 1) & (digits::get::<u8>(s, 2) == 17)
 }
 
 // The mask of a head for the box asked for, a membership that holds it.
@@ -31,8 +31,8 @@ pub fn head_mask(me: u8, s: &[u8]) -> Option<u8>
     if !is_head_shaped(s) {
         return None;
     }
-    let mask = digits::get_u8(s, 6);
-    if (digits::get_u8(s, 4) == me) & rules::is_membership(me, mask) {
+    let mask: u8 = digits::get(s, 6);
+    if (digits::get::<u8>(s, 4) == me) & rules::is_membership(me, mask) {
         return Some(mask);
     }
     None
@@ -48,9 +48,9 @@ pub fn is_shaped(s: &[u8]) -> bool
     if !frame_reader::is_line(s) {
         return false;
     }
-    (digits::get_u8(s, 0) == 1)
-        & (digits::get_u8(s, 2) == 16)
-        & (s.len() == 23 + 24 * digits::get_u8(s, 20) as usize)
+    (digits::get::<u8>(s, 0) == 1)
+        & (digits::get::<u8>(s, 2) == 16)
+        & (s.len() == 23 + 24 * digits::get::<u8>(s, 20) as usize)
 }
 
 // The fields of a line, each from its place.
@@ -59,13 +59,13 @@ pub fn line_fields(s: &[u8]) -> LineFields
     ensures result_value { line_of result ≡ line_in s.now }
     ensures count_le_entry_limit { result.count ≤ entry_limit }
 {
-    let count = digits::get_u8(s, 20);
+    let count: u8 = digits::get(s, 20);
     let entries = frame_reader::entries(s, 22, count);
     LineFields {
-        who: digits::get_u8(s, 4),
-        term: digits::get_u32(s, 6),
-        vote: digits::get_u8(s, 14),
-        kept: digits::get_u16(s, 16),
+        who: digits::get(s, 4),
+        term: digits::get(s, 6),
+        vote: digits::get(s, 14),
+        kept: digits::get(s, 16),
         count,
         entries,
     }
@@ -92,6 +92,9 @@ pub fn is_allowed(n: Record, l: LineFields, terms: &[u32]) -> bool
     if !allows_numbers(n, l) {
         return false;
     }
-    let entries = l.entries;
-    in_order(entries, l.count as usize, term_at(terms, l.kept), l.term)
+    in_order(
+        &l.entries[..l.count as usize],
+        term_at(terms, l.kept),
+        l.term,
+    )
 }

@@ -37,15 +37,19 @@ pub fn replay_line(
     if !is_shaped(line) {
         return Err(Refusal::BadLine);
     }
-    if Fields::ENTRIES < digits::get_u8(line, 20) as usize {
+    if Fields::ENTRIES < digits::get::<u8>(line, 20) as usize {
         return Err(Refusal::BadLine);
     }
     let l = line_fields(line);
     if !is_allowed(n, l, &terms[..]) {
         return Err(Refusal::BadLine);
     }
-    let entries = l.entries;
-    rules::store(terms, orders, l.kept as usize, entries, 0, l.count as usize);
+    rules::store(
+        terms,
+        orders,
+        l.kept as usize,
+        &l.entries[..l.count as usize],
+    );
     Ok(after(n, l))
 }
 

@@ -14,13 +14,13 @@ pub returns-then-not-is_line : goal.returns-then-not-is_line
 returns-then-not-is_line c =
     sym (head-no_line c.args.s.now (sym c.is_line.ensures ∙ c.if-not-is_line.true))
 
-pub get_u8-requires : goal.get_u8-requires
-get_u8-requires c =
+pub get-requires : goal.get-requires
+get-requires c =
     let line = sym c.is_line.ensures ∙ c.if-not-is_line.false in
     omega (arith, line-run c.args.s.now line, c.if-s-ne9.false)
 
-pub get_u8-requires-2 : goal.get_u8-requires-2
-get_u8-requires-2 c =
+pub get-requires-2 : goal.get-requires-2
+get-requires-2 c =
     let line = sym c.is_line.ensures ∙ c.if-not-is_line.false in
     omega (arith, line-run c.args.s.now line, c.if-s-ne9.false)
 
@@ -28,4 +28,4 @@ pub returns : goal.returns
 unfolding version kind
 returns c =
     let line = sym c.is_line.ensures ∙ c.if-not-is_line.false in
-    head-by c.args.s.now _ _ line c.if-s-ne9.false c.get_u8.ensures c.get_u8-2.ensures
+    head-by c.args.s.now _ _ line c.if-s-ne9.false c.get.ensures c.get-2.ensures

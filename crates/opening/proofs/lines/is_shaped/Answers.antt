@@ -15,18 +15,18 @@ pub returns-then-not-is_line : goal.returns-then-not-is_line
 returns-then-not-is_line c =
     sym (shaped-no_line c.args.s.now (sym c.is_line.ensures ∙ c.if-not-is_line.true))
 
-pub get_u8-requires : goal.get_u8-requires
-get_u8-requires c =
+pub get-requires : goal.get-requires
+get-requires c =
     let line = sym c.is_line.ensures ∙ c.if-not-is_line.false in
     omega (arith, line-run c.args.s.now line, c.if-s-lt23.false)
 
-pub get_u8-requires-2 : goal.get_u8-requires-2
-get_u8-requires-2 c =
+pub get-requires-2 : goal.get-requires-2
+get-requires-2 c =
     let line = sym c.is_line.ensures ∙ c.if-not-is_line.false in
     omega (arith, line-run c.args.s.now line, c.if-s-lt23.false)
 
-pub get_u8-requires-3 : goal.get_u8-requires-3
-get_u8-requires-3 c =
+pub get-requires-3 : goal.get-requires-3
+get-requires-3 c =
     let line = sym c.is_line.ensures ∙ c.if-not-is_line.false in
     omega (arith, line-run c.args.s.now line, c.if-s-lt23.false)
 
@@ -34,4 +34,4 @@ pub returns : goal.returns
 unfolding version kind count_in
 returns c =
     let line = sym c.is_line.ensures ∙ c.if-not-is_line.false in
-    shaped-by c.args.s.now _ _ _ line c.get_u8.ensures c.get_u8-2.ensures c.get_u8-3.ensures
+    shaped-by c.args.s.now _ _ _ line c.get.ensures c.get-2.ensures c.get-3.ensures

@@ -11,22 +11,22 @@ returns-then-not-is_shaped c =
     let unshaped = sym c.is_shaped.ensures ∙ c.if-not-is_shaped.true in
     replay_unshaped c.args.n c.args.line.now c.args.terms.now c.args.orders.now unshaped
 
-pub get_u8-requires : goal.get_u8-requires
-get_u8-requires c =
+pub get-requires : goal.get-requires
+get-requires c =
     let shaped = sym c.is_shaped.ensures ∙ c.if-not-is_shaped.false in
     omega (arith, shaped-run c.args.line.now shaped)
 
-pub returns-then-get_u8-gt-ENTRIES : goal.returns-then-get_u8-gt-ENTRIES
+pub returns-then-get-gt-ENTRIES : goal.returns-then-get-gt-ENTRIES
 unfolding count_in
-returns-then-get_u8-gt-ENTRIES c =
+returns-then-get-gt-ENTRIES c =
     replay_many c.args.n c.args.line.now c.args.terms.now c.args.orders.now
-    (omega (arith, c.get_u8.ensures, c.if-get_u8-gt-ENTRIES.true))
+    (omega (arith, c.get.ensures, c.if-get-gt-ENTRIES.true))
 
 pub line_fields-l-requires : goal.line_fields-l-requires
 unfolding count_in
 line_fields-l-requires c =
     let shaped = sym c.is_shaped.ensures ∙ c.if-not-is_shaped.false in
-    record { shaped = shaped; few = omega (arith, c.get_u8.ensures, c.if-get_u8-gt-ENTRIES.false) }
+    record { shaped = shaped; few = omega (arith, c.get.ensures, c.if-get-gt-ENTRIES.false) }
 
 pub returns-then-not-is_allowed : goal.returns-then-not-is_allowed
 returns-then-not-is_allowed c =
@@ -38,8 +38,6 @@ store-requires c =
     let holds = sym (c.is_allowed.ensures c.args.orders.now) ∙ c.if-not-is_allowed.false in
     let fits = allowed-numbers c.args.n _ c.args.terms.now c.args.orders.now holds in
     record {
-      few = fits.few;
-      part = omega arith;
       in_terms = omega (arith, fits.room, c.requires.terms_long);
       in_orders = omega (arith, fits.room, c.requires.orders_long);
     }
@@ -54,4 +52,4 @@ returns c =
     let shaped = sym c.is_shaped.ensures ∙ c.if-not-is_shaped.false in
     let holds = sym (c.is_allowed.ensures c.args.orders.now) ∙ c.if-not-is_allowed.false in
     let next = replay-next c.args.n c.args.line.now c.args.terms.now c.args.orders.now _ shaped c.line_fields-l.ensures.result_value holds c.requires in
-    next c.after.ensures c.store.ensures.terms_after c.store.ensures.orders_after
+    next c.after.ensures (omega arith) c.store.ensures.terms_after c.store.ensures.orders_after
