@@ -1,12 +1,13 @@
 -- What is proved of an order's bytes: each way undoes the other, and a frame shows the bytes as they stand. Over the width. Assumes nothing.
-use Rattle.std.specs.Prelude.{ℕ, zero, suc, ◌-◌, ◌/◌, ◌%◌, ◌^◌, ◌≤◌, ◌<◌, ◌≡◌, refl, List, [], ◌∷◌, ◌++◌, length, get_or, take, drop, set}
-use Rattle.std.proofs.Common.{pow-suc, div-lt_iff_lt-mul, arith, sym, ap, ◌∙◌, append_assoc, append-nil, length-append, length-set, drop_of_length-le, take-suc, take_all, drop-cons, drop-set-lt, get_or-set_same}
+use Rattle.std.specs.Int.{byte_at, bytes_high_first}
+use Rattle.std.specs.Prelude.{ℕ, zero, suc, ◌/◌, ◌%◌, ◌^◌, ◌≤◌, ◌<◌, ◌≡◌, refl, List, [], ◌∷◌, ◌++◌, length, get_or, take}
+use Rattle.std.proofs.Common.{div-one, pow-suc, div-lt_iff_lt-mul, arith, sym, ap, ◌∙◌, length-append, take-suc, take_all}
 use Rattle.std.proofs.Math.Nat.{pow-zero}
-use Rattle.std.proofs.Math.Numerals.{unary_clauses}
 use Rattle.std.proofs.Math.Arith.{digits_div, digits_mod}
 use Rattle.std.proofs.Math.ListN.{get_or-append}
 use Rattle.std.proofs.lemmas.List.{get_or_at}
 use Rattle.digits.specs.Digits.{hex, big_endian, spelt}
+use Rattle.digits.specs.Laws.{big_endian-front}
 use Rattle.abi.specs.Orders.{number, order_of, bytes_of, EightBytes}
 
 -- ---- there and back
@@ -60,37 +61,13 @@ field-of-order order = refl
 pub field-of-bytes : (bytes : List ℕ) → EightBytes bytes → spelt 8 (order_of bytes) ≡ hex bytes
 field-of-bytes bytes e = field-of-order (order_of bytes) ∙ ap hex (bytes-again bytes e)
 
--- ---- bytes stored one by one, from the last on
+-- ---- the bytes as the library writes them, the highest first
 
--- The number n in the first w places: its lowest byte in the last of them, then what is left of it in those before.
-unfoldable pub stored : ℕ → List ℕ → ℕ → List ℕ
-stored zero bytes n = bytes
-stored (suc w) bytes n = stored w (set bytes w (n % 256)) (n / 256)
-
--- a turn of the loop, and its end
-pub stored_turn : (w : ℕ) (bytes : List ℕ) (n : ℕ) → 0 < w → stored (w - 1) (set bytes (w - 1) (n % 256)) (n / 256) ≡ stored w bytes n
-unfolding stored
-stored_turn zero bytes n h = absurd (omega arith)
-stored_turn (suc w) bytes n h = simp unary_clauses
-
-pub stored-none : (bytes : List ℕ) (n : ℕ) → stored 0 bytes n ≡ bytes
-unfolding stored
-stored-none bytes n = refl
-
--- the field, and everything behind it as it was
-stored-front : (w : ℕ) (bytes : List ℕ) (n : ℕ) → w ≤ length bytes → stored w bytes n ≡ big_endian w n ++ drop w bytes
-unfolding stored big_endian
-stored-front zero bytes n h = refl
-stored-front (suc w) bytes n h =
-    rw (
-      stored-front w (set bytes w (n % 256)) (n / 256) (omega (arith, length-set bytes w (n % 256))),
-      drop-cons (set bytes w (n % 256)) w 0 (omega (arith, length-set bytes w (n % 256))),
-      get_or-set_same bytes w (n % 256) 0 h,
-      drop-set-lt (suc w) bytes w (n % 256) (omega arith),
-    )
-    (sym (append_assoc (big_endian w (n / 256)) (n % 256 ∷ []) (drop (suc w) bytes)))
-
--- in 8 places nothing is left of what was there
-pub stored-all : (bytes : List ℕ) (order : ℕ) → length bytes ≡ 8 → stored 8 bytes order ≡ bytes_of order
-stored-all bytes order long =
-    rw (stored-front 8 bytes order (omega arith), drop_of_length-le bytes {i = 8} (omega arith)) (append-nil (bytes_of order))
+pub written-high_first : (w n : ℕ) → bytes_high_first w n ≡ big_endian w n
+unfolding big_endian
+written-high_first zero n = refl
+written-high_first (suc w) n = rw (big_endian-front w n, ← written-high_first w n) (highest w)
+  where
+    highest : (w : ℕ) → byte_at w n ∷ bytes_high_first w n ≡ n / 256 ^ w % 256 ∷ bytes_high_first w n
+    highest zero = rw (pow-zero, div-one)
+    highest (suc w) = refl

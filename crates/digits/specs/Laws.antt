@@ -169,7 +169,8 @@ numeral-lt (c ∷ ds) =
     rw (numeral_shift (0 * 16 + worth c) ds, pow-suc 16 (length ds))
     (omega (arith, numeral-lt ds, mul-le-mul_right (16 ^ length ds) (worth-lt c)))
 
-big_endian-front : (w n : ℕ) → big_endian (suc w) n ≡ n / 256 ^ w % 256 ∷ big_endian w n
+-- the highest byte first
+pub big_endian-front : (w n : ℕ) → big_endian (suc w) n ≡ n / 256 ^ w % 256 ∷ big_endian w n
 unfolding big_endian
 big_endian-front w n = ap (λ (k : ℕ). big_endian k n) (sym (one-add w)) ∙ big_endian_split 1 w n
 

@@ -1,6 +1,7 @@
 -- What an append comes to, case by case, and the decision that adds entries. Assumes nothing.
-use Rattle.std.specs.Prelude.{ℕ, ◌+◌, ◌-◌, ◌≤◌, ◌<◌, min, ◌≡◌, true, false, List, [], ◌∷◌, ◌++◌, length, drop, slice_range}
+use Rattle.std.specs.Prelude.{ℕ, ◌+◌, ◌-◌, ◌≤◌, ◌<◌, min, ◌≡◌, true, false, List, [], ◌∷◌, ◌++◌, length, take, drop, Bool}
 use Rattle.std.proofs.Common.{arith, ◌∙◌, take_all, length-drop}
+use Rattle.std.proofs.lemmas.List.{length-take-le}
 use Rattle.std.proofs.Math.Path.{sym, ap}
 use borrow.Author.Tests.{eq-eqb, ne_eqb, lt-ltb, le-ltb}
 use Rattle.frames.specs.declared.Entry.{Entry}
@@ -17,8 +18,27 @@ use Rattle.raft.proofs.JoinLaws.{stop-most, stop-offered, joined_same, joined-cu
 use Rattle.record.specs.Calls.{entries_of, with_entries, state_of}
 use Rattle.record.specs.Deciding.{messages_of, decided, Aimed, Decides, Becomes}
 use Rattle.record.specs.DecidingLaws.{becomes_lent}
-use Rattle.rules.specs.SliceLaws.{listed-slice}
-use Rattle.messages.specs.Required.{Offered}
+use Rattle.rules.specs.SliceLaws.{listed-slice, entries-own}
+use Rattle.messages.specs.Required.{Lent, Offered}
+
+-- ---- the log's own terms
+
+module _ {b : Record} {terms : List ℕ} (l : Lent b terms) (orders : List ℕ) where
+  within : b.last ≤ length terms
+  within = omega (arith, l.long, l.last)
+
+  -- are as many as it is long,
+  pub own-long : length (take b.last terms) ≡ b.last
+  own-long = length-take-le b.last terms within
+
+  -- and the search and the look at the entry before see the log in them.
+  pub own-found : (index : ℕ) (es : List Entry) {place : ℕ}
+      → place ≡ stop (entries_of (take b.last terms) orders 0 (length (take b.last terms))) index es → place ≡ stop (entries_of terms orders 0 b.last) index es
+  own-found index es e = e ∙ ap (λ (log : List Entry). stop log index es) (entries-own terms orders b.last within)
+
+  pub own-lacks : (index prior : ℕ) {x : Bool}
+      → x ≡ lacks (entries_of (take b.last terms) orders 0 (length (take b.last terms))) index prior → x ≡ lacks (entries_of terms orders 0 b.last) index prior
+  own-lacks index prior e = e ∙ ap (λ (log : List Entry). lacks log index prior) (entries-own terms orders b.last within)
 
 -- ---- before the search
 
@@ -43,7 +63,6 @@ module _ (s : State) (from index prior commit : ℕ) (es : List Entry) where
 
 -- the listed entries from a place on
 drop-listed : (es : List Entry) (k : ℕ) → drop k es ≡ listed es k (length es - k)
-unfolding slice_range
 drop-listed es k = sym (listed-slice es k (length es) (omega arith) ∙ take_all _ _ (omega (arith, length-drop k es)))
 
 module _ (b : Record) (terms orders : List ℕ) (from index commit : ℕ) (es : List Entry) (place : ℕ)

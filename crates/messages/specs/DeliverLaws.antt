@@ -93,6 +93,10 @@ module _ (f : Fields) (h : one_frame f ≡ true) where
   append-room : f.kind ≡ 3 → f.index + f.count ≤ log_limit
   append-room k = omega (arith, (offers k).room, length-listed f.entries 0 f.count)
 
+  -- no frame has more
+  pub frame-few : f.count ≤ entry_limit
+  frame-few = (whole f h).few
+
 -- ---- a lower term
 
 module _ (f : Fields) (s : State) where
@@ -208,12 +212,12 @@ module _ {b : Record} {f : Fields} {terms orders : List ℕ} where
         }
 
 -- what the record with the term taken decides, the box decides
-pub taken-decides : (b t : Record) (f : Fields) (terms orders : List ℕ) (r : Result Decision Refusal) {offered : List Entry}
+pub taken-decides : (b t : Record) (f : Fields) (terms orders : List ℕ) (r : Result Decision Refusal) (offered : List Entry)
     → Becomes b t (taken f.term) → b.term ≤ f.term
     → DecidesOrRefuses t.last r offered terms orders (current (message_of f) (state_of t terms orders))
     → DecidesOrRefuses b.last r offered terms orders (deliver (message_of f) (state_of b terms orders))
-taken-decides b t f terms orders r e h k =
-    answers_at r _ terms orders e.last (deliver-taken f (state_of b terms orders) h (state_of t terms orders) (becomes_lent e terms orders)) k
+taken-decides b t f terms orders r offered e h k =
+    answers_at r offered terms orders e.last (deliver-taken f (state_of b terms orders) h (state_of t terms orders) (becomes_lent e terms orders)) k
 
 -- ---- any bytes
 

@@ -23,16 +23,21 @@ fn stale(n: Record, f: Fields) -> Decision
         Decides n.last result offered terms orders (stale (message_of f) (state_of n terms orders)) }
 {
     let to = f.from;
-    let send = match f.kind {
-        Fields::VOTE_REQUEST => Send::VoteAnswer { to, reply: 0 },
-        Fields::APPEND => Send::AppendAnswer {
-            to,
-            reply: 0,
-            index: 0,
-        },
-        _ => Send::Nothing,
-    };
-    step(n, send)
+    match f.kind {
+        Fields::VOTE_REQUEST => {
+            let no = Send::VoteAnswer { to, reply: 0 };
+            step(n, no)
+        }
+        Fields::APPEND => {
+            let no = Send::AppendAnswer {
+                to,
+                reply: 0,
+                index: 0,
+            };
+            step(n, no)
+        }
+        _ => step(n, Send::Nothing),
+    }
 }
 
 // Its kind, at a box that is in the message's term.

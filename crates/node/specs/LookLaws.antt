@@ -1,5 +1,6 @@
 -- Looking at a record: 12 where it breaks a rule, and otherwise it is ready for its event. Assumes nothing.
 use Rattle.std.specs.Prelude.{ℕ, ◌≡◌, true, false, List, length, Result, Ok, Err, MatchResult, IsErrAnd}
+use Rattle.std.specs.Result.{result_and}
 use Rattle.std.proofs.Common.{◌∙◌}
 use Rattle.std.proofs.lemmas.Result.{err_from_is_err_and}
 use Rattle.frames.specs.declared.refusal.Refusal.{Refusal}
@@ -41,25 +42,26 @@ module _ (b : Record) (terms orders : List ℕ) where
     unfolding handed
     hands-all = rw well
 
+-- What is handed out behind a look.
+pub hands : (look : Result (Unit {0}) Refusal) (b : Record) (terms orders : List ℕ) → Looks look b terms orders
+    → handed_told (result_and look (Ok b.commit)) ≡ handed b terms orders
+hands (Ok x) b terms orders well = hands-all b terms orders well
+hands (Err r) b terms orders h = rw h.0 (hands_none b terms orders h.1)
+
 -- ---- handed on by `?`
 
--- the look's refusal
-pub exit-bad : (n : Node) (r : Refusal) (v : Event) {terms orders journal messages : List ℕ} (answer : Result (Step Node) Refusal)
-    → IsErrAnd answer (λ e. e ≡ r) → (r ≡ BadRecord) × (good (state_of n.state terms orders) ≡ false)
-    → Calls v n terms orders journal messages (told n answer) terms orders journal messages
-exit-bad n r v {terms} {orders} {journal} {messages} answer exits h =
-    let p = err_from_is_err_and answer exits in
-    rw (p.1, p.2, h.0) (looked_bad n.state terms orders h.1 v journal messages)
+module _ (n : Node) (r : Refusal) (v : Event) (terms orders journal messages : List ℕ) (answer : Result (Step Node) Refusal)
+    (exits : IsErrAnd answer (λ e. e ≡ r)) where
+  -- the look's refusal
+  pub exit-bad : (r ≡ BadRecord) × (good (state_of n.state terms orders) ≡ false)
+      → Calls v n terms orders journal messages (told n answer) terms orders journal messages
+  exit-bad h =
+      let p = err_from_is_err_and answer exits in
+      rw (p.1, p.2, h.0) (looked_bad n.state terms orders h.1 v journal messages)
 
-pub exit-hands_none : (b : Record) (r : Refusal) {terms orders : List ℕ} (answer : Result ℕ Refusal)
-    → IsErrAnd answer (λ e. e ≡ r) → (r ≡ BadRecord) × (good (state_of b terms orders) ≡ false) → handed_told answer ≡ handed b terms orders
-exit-hands_none b r {terms} {orders} answer exits h =
-    let p = err_from_is_err_and answer exits in rw (p.1, p.2, h.0) (hands_none b terms orders h.1)
-
--- and an event's
-pub exit-runs : (n : Node) (r : Refusal) (v : Event) {terms orders journal messages terms' orders' journal' messages' : List ℕ}
-    (answer : Result (Step Node) Refusal) → IsErrAnd answer (λ e. e ≡ r) → good (state_of n.state terms orders) ≡ true
-    → Runs (step v (state_of n.state terms orders)) n.state terms orders journal messages (Err r) terms' orders' journal' messages'
-    → Calls v n terms orders journal messages (told n answer) terms' orders' journal' messages'
-exit-runs n r v {terms} {orders} {journal} {messages} answer exits well runs =
-    let p = err_from_is_err_and answer exits in rw (p.1, p.2) (runs ∙ looked_good n.state terms orders well v journal messages)
+  -- and an event's
+  pub exit-runs : {terms' orders' journal' messages' : List ℕ} → good (state_of n.state terms orders) ≡ true
+      → Runs (step v (state_of n.state terms orders)) n.state terms orders journal messages (Err r) terms' orders' journal' messages'
+      → Calls v n terms orders journal messages (told n answer) terms' orders' journal' messages'
+  exit-runs well runs =
+      let p = err_from_is_err_and answer exits in rw (p.1, p.2) (runs ∙ looked_good n.state terms orders well v journal messages)

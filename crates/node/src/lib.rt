@@ -52,7 +52,9 @@ impl Node {
         ensures { Starts me mask journal.old (start_told result) journal.new }
     {
         let started = events::start(me, mask, journal)?;
-        let fresh = Node { state: started.fresh };
+        let fresh = Node {
+            state: started.fresh,
+        };
         Ok(Started {
             fresh,
             bytes: started.bytes,
@@ -138,7 +140,11 @@ impl Node {
     }
 
     // "Handed out: entries 1 to commit": how many of the lent log's entries.
-    pub fn handed_out(self, terms: &[u32; Node::LOG], orders: &[u64; Node::LOG]) -> Result<u16, Refusal>
+    pub fn handed_out(
+        self,
+        terms: &[u32; Node::LOG],
+        orders: &[u64; Node::LOG],
+    ) -> Result<u16, Refusal>
         ensures { handed_told result ≡ handed self.state terms.now orders.now }
     {
         self.look(terms).and(Ok(self.state.commit))

@@ -1,17 +1,17 @@
 -- The program `replay`: the box asked for, and the record that a journal opens to, as text. Assumes nothing.
-use Rattle.std.specs.Prelude.{ℕ, ◌+◌, ◌-◌, Bool, cond, ◌&&◌, List, [], ◌∷◌, ◌++◌, eqb, leb, length, get_or}
+use Rattle.std.specs.Prelude.{ℕ, ◌+◌, ◌-◌, Bool, cond, Option, Some, None, ◌&&◌, List, [], ◌∷◌, ◌++◌, eqb, leb, length, get_or}
 use Rattle.frames.specs.declared.Entry.{Entry}
 use Rattle.frames.specs.Limits.{boxes}
 use Rattle.frames.specs.Message.{entry_fields, spell, line_feed}
 use Rattle.raft.specs.Record.{State, last_index}
 use Rattle.printing.specs.Text.{decimal}
 
--- "a first line with one digit, the box asked for": 1 to 7; 0, which is no box, where it is another line.
+-- "a first line with one digit, the box asked for": 1 to 7; none where it is another line.
 unfoldable pub asks : List ℕ → Bool
 asks s = eqb (length s) 2 && (leb 49 (get_or s 0 0) && leb (get_or s 0 0) (48 + boxes) && eqb (get_or s 1 0) line_feed)
 
-unfoldable pub asked_box : List ℕ → ℕ
-asked_box s = cond (asks s) (get_or s 0 0 - 48) 0
+unfoldable pub asked_box : List ℕ → Option ℕ
+asked_box s = cond (asks s) (Some (get_or s 0 0 - 48)) None
 
 abbrev pub space : ℕ
 space = 32

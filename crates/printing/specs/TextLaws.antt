@@ -15,10 +15,6 @@ rest-whole s at = rw (← length-drop at s) (take-length (drop at s))
 
 -- ---- a text put at a place
 
--- all of it
-pub put_all : (s : List ℕ) (i : ℕ) → i ≡ length s → take i s ≡ s
-put_all s i e = rw e (take-length s)
-
 -- what was written at the start is read back
 pub taken_back : (d s : List ℕ) → take (length s) (over d 0 s) ≡ s
 unfolding over

@@ -3,7 +3,7 @@ ghost use Rattle.std.specs.Prelude.{◌≡◌, ◌+◌, ◌≤◌, length};
 ghost use Rattle.digits.specs.Room.{over};
 ghost use Rattle.raft.specs.Lent.{entries_of};
 ghost use Rattle.record.specs.Calls.{state_of};
-ghost use Rattle.printing.specs.Looking.{asks, asked_box, numbered, first_shown, log_shown, shown};
+ghost use Rattle.printing.specs.Looking.{asked_box, numbered, first_shown, log_shown, shown};
 ghost use Rattle.printing.specs.Putting.{Puts, shown_most, Listable, Showable};
 
 use crate::putting::put_decimal;
@@ -13,24 +13,15 @@ use record::Record;
 // The digit of the last box.
 const LAST: u8 = b'0' + Fields::BOXES;
 
-// "a first line with one digit, the box asked for"
-fn is_asking(s: &[u8]) -> bool
-    ensures { result ≡ asks s.now }
-{
-    if s.len() != 2 {
-        return false;
-    }
-    (b'1' <= s[0]) & (s[0] <= LAST) & (s[1] == 10)
-}
-
-// The box that the first line asks for; 0, which is no box, where it is not one digit from 1 to 7.
-pub fn asked(line: &[u8]) -> u8
+// "a first line with one digit, the box asked for", from 1 to 7.
+#[tactic(auto, unfolding(crate::specs::Looking::asked_box, crate::specs::Looking::asks))]
+pub fn asked(line: &[u8]) -> Option<u8>
     ensures { result ≡ asked_box line.now }
 {
-    if is_asking(line) {
-        return line[0] - 48;
+    match line {
+        [digit @ b'1'..=LAST, 10] => Some(digit - b'0'),
+        _ => None,
     }
-    0
 }
 
 // A number and the character behind it; answers the place behind both.
@@ -62,11 +53,9 @@ fn put_log(room: &mut [u8], at: usize, terms: &[u32], orders: &[u64], last: usiz
     ensures { room.new ≡ over room.old at
         (log_shown (entries_of terms.now orders.now 0 last)) }
 {
-    let mut i = 0;
-    while i < last {
+    for i in 0..last {
         frame_writer::put_entry(room, at + 25 * i, terms[i], orders[i]);
         room[at + 25 * i + 24] = 10;
-        i += 1;
     }
 }
 

@@ -3,17 +3,16 @@ ghost use Rattle.std.specs.Prelude.{◌≡◌, ◌+◌, ◌≤◌, length};
 ghost use Rattle.digits.specs.Room.{over};
 ghost use Rattle.printing.specs.Text.{decimal_in, refusal_line};
 ghost use Rattle.printing.specs.Putting.{Puts};
+ghost use Rattle.frames.specs.Refusal.{number};
+
+use frames::Refusal;
 
 // Puts a text at a place of the room.
 pub fn put(room: &mut [u8], at: usize, text: &[u8])
     requires { at + length text.now ≤ length room.old }
     ensures { room.new ≡ over room.old at text.now }
 {
-    let mut i = 0;
-    while i < text.len() {
-        room[at + i] = text[i];
-        i += 1;
-    }
+    room[at..at + text.len()].copy_from_slice(text);
 }
 
 // Puts a number's last so many decimal places at a place, none in front of its first; answers the place behind them.
@@ -35,12 +34,12 @@ pub fn put_decimal(room: &mut [u8], at: usize, n: u64, places: usize) -> usize
 }
 
 // Puts the line of a refusal at the room's start; answers its bytes.
-pub fn put_refusal(room: &mut [u8], number: u8) -> usize
+pub fn put_refusal(room: &mut [u8], refusal: Refusal) -> usize
     requires { 22 ≤ length room.old }
-    ensures { Puts room.old 0 (refusal_line number) result room.new }
+    ensures { Puts room.old 0 (refusal_line (number refusal)) result room.new }
 {
     room[0] = b'n';
-    let end = put_decimal(room, 1, number as u64, 20);
+    let end = put_decimal(room, 1, refusal.number() as u64, 20);
     room[end] = 10;
     end + 1
 }

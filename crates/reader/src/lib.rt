@@ -53,7 +53,7 @@ pub struct Line {
 // it ends, is tested. So of the block nothing is said where there is none.)
 pub fn whole_line<R: Read>(input: &mut R, block: &mut [u8], filled: usize) -> Option<Line>
     requires { filled ≤ length block.old }
-    ensures end_some { IfSome result (λ line. 0 < line.end) }
+    ensures not_empty { IfSome result (λ line. 0 < line.end) }
     ensures end_le_held { IfSome result (λ line. line.end ≤ line.held) }
     ensures held_in_bounds { IfSome result (λ line. line.held ≤ length block.old) }
     ensures end_value { IfSome result (λ line. line.end ≡ first_line (take line.held block.new)) }

@@ -1,7 +1,6 @@
 -- How a decision comes to stand for an outcome. Assumes nothing.
 use Rattle.std.specs.Prelude.{ℕ, ◌+◌, ◌-◌, ◌≤◌, ◌<◌, ◌≡◌}
-use Rattle.std.specs.Prelude.{Result, Ok, Err, IsErrAnd}
-use Rattle.std.proofs.lemmas.Result.{err_from_is_err_and}
+use Rattle.std.specs.Prelude.{Result, Ok, Err}
 use Rattle.std.proofs.Common.{arith, sym, ap, ◌∙◌, subst}
 use mathlib.Core.List.{List, [], ◌∷◌, ◌++◌, append-nil}
 use Rattle.frames.specs.declared.Entry.{Entry}
@@ -12,7 +11,6 @@ use Rattle.frames.specs.Refusal.{number}
 use Rattle.record.specs.declared.Record.{Record}
 use Rattle.record.specs.declared.Send.{Send}
 use Rattle.record.specs.declared.Decision.{Decision}
-use Rattle.record.specs.declared.Step.{Step}
 use Rattle.raft.specs.Record.{State}
 use Rattle.raft.proofs.RecordLaws.{Good, good-facts, facts-good}
 use Rattle.raft.specs.Journal.{kept}
@@ -22,7 +20,7 @@ use Rattle.raft.specs.Outcome.{Outcome, done, refuse}
 use Rattle.raft.specs.Event.{Event, step}
 use Rattle.raft.proofs.EventLaws.{step-good}
 use Rattle.raft.specs.LentLaws.{length-entries_of}
-use Rattle.record.specs.Calls.{entries_of, with_entries, state_of, run, Runs, Ready}
+use Rattle.record.specs.Calls.{entries_of, with_entries, state_of, run, Ready}
 use Rattle.record.specs.Deciding.{messages_of, one_entry, after, decided, Aimed, Decides, DecidesOrRefuses, Sound, Becomes}
 use Rattle.record.specs.GoodLaws.{ready-last}
 
@@ -134,17 +132,6 @@ module _ {n : Record} {d : Decision} {offered : List Entry} {terms orders : List
   pub finished : (journal messages : List ℕ)
       → run (decided d offered terms orders) n terms orders journal messages ≡ run (step e (state_of n terms orders)) n terms orders journal messages
   finished journal messages = rw k.comes
-
--- What is refused leaves all as it was.
-pub refusal-leaves : (n : Record) (r : Refusal) {terms orders journal messages : List ℕ} {o : Outcome} → refuse (number r) ≡ o
-    → Runs o n terms orders journal messages (Err r) terms orders journal messages
-unfolding run
-refusal-leaves n r e = rw (← e)
-
--- So does a function that hands a refusal on, by `?`.
-pub exit-leaves : (n : Record) (r : Refusal) {terms orders journal messages : List ℕ} {o : Outcome} (answer : Result (Step Record) Refusal)
-    → IsErrAnd answer (λ e. e ≡ r) → refuse (number r) ≡ o → Runs o n terms orders journal messages answer terms orders journal messages
-exit-leaves n r answer exits e = let p = err_from_is_err_and answer exits in rw (p.1, p.2) (refusal-leaves n r e)
 
 -- ---- a change of a struct, on the lent log
 

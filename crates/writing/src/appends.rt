@@ -1,50 +1,34 @@
-// "Append to j", and an append to each other member in rising box number.
-ghost use Rattle.std.specs.Prelude.{◌≡◌, ◌+◌, ◌≤◌};
+// "Append to j", and an append to each other member in rising box number. The log is lent as C lends it: its terms and its orders, apart.
+ghost use Rattle.std.specs.Prelude.{◌≡◌, ◌≤◌};
 ghost use Rattle.digits.specs.Room.{over};
 ghost use Rattle.frames.specs.Limits.{IsBox, boxes, entry_limit, longest_message};
 ghost use Rattle.frames.specs.Message.{append, text};
 ghost use Rattle.raft.specs.Sends.{append_to, texts, appends};
 ghost use Rattle.raft.specs.Lent.{entries_of};
 ghost use Rattle.record.specs.Calls.{state_of};
-ghost use Rattle.record.specs.Sizes.{share, shares, previous, entry_count, append_size, Loggable, AppendFits, AppendFitsAt, AppendsFit};
-ghost use Rattle.record.specs.SizeLaws.{only};
+ghost use Rattle.record.specs.Sizes.{shares, previous, entry_count, append_size, Loggable, AppendFits, AppendsFit};
 
 use crate::journal_lines::put_logged;
-use crate::others::shares;
+use crate::others::{put_to_others, shares};
 use frames::Fields;
 use record::Record;
-use rules::{is_other, term_at};
+use rules::term_at;
 
 // "Previous index = next - 1"
 fn previous(n: Record, i: u8) -> u16
     requires { IsBox i }
     ensures { result ≡ previous n i }
 {
-    let at = (i - 1) as usize;
     let lead = n.lead;
-    let next = lead.next[at];
-    if next == 0 {
-        return 0;
-    }
-    next - 1
+    lead.next[(i - 1) as usize].saturating_sub(1)
 }
-
-// 01's limit of entries, as a count.
-const MOST: u8 = Fields::ENTRIES as u8;
 
 // "up to 4 entries from next on"
 fn entry_count(last: u16, previous: u16) -> u8
     ensures value { result ≡ entry_count last previous }
     ensures upper_bound { result ≤ entry_limit }
 {
-    if last <= previous {
-        return 0;
-    }
-    let left = last - previous;
-    if MOST as u16 <= left {
-        return MOST;
-    }
-    (left % 256) as u8
+    last.saturating_sub(previous).min(Fields::ENTRIES as u16) as u8
 }
 
 // The bytes of the append to box i.
@@ -63,7 +47,8 @@ pub fn appends_size(n: Record) -> usize
     shares(n, |i| append_size(n, i))
 }
 
-// An append whose entries stand in the lent log behind the previous index.
+// An append whose entries stand in the lent log behind the previous index. Its fields come one by one: a struct of them would be written in small pieces and
+// read back in large ones, which is slower (docs/BENCH.md).
 fn put_append_from(
     room: &mut [u8],
     from: u8,
@@ -106,37 +91,14 @@ pub fn put_append(room: &mut [u8], n: Record, terms: &[u32], orders: &[u64], i: 
     );
 }
 
-// Box i's append, from a place on, or nothing; the answer is the place behind it.
-fn put_append_at(
-    room: &mut [u8],
-    at: usize,
-    n: Record,
-    terms: &[u32],
-    orders: &[u64],
-    i: u8,
-) -> usize
-    requires { AppendFitsAt n i at terms.now orders.now room.old }
-    ensures value { result ≡ at + share n (append_size n) i }
-    ensures room_after { room.new ≡ over room.old at (texts (only
-        (state_of n terms.now orders.now) (append_to (state_of n terms.now orders.now)) i)) }
-{
-    if !is_other(n.me, n.members, i) {
-        return at;
-    }
-    put_append(&mut room[at..], n, terms, orders, i);
-    at + append_size(n, i)
-}
-
 // An append to each other member.
 pub fn put_appends(room: &mut [u8], n: Record, terms: &[u32], orders: &[u64])
     requires { AppendsFit n terms.now orders.now room.old }
     ensures { room.new ≡ over room.old 0
         (texts (appends (state_of n terms.now orders.now))) }
 {
-    let mut at = 0;
-    let mut i = 1;
-    while i <= Fields::BOXES {
-        at = put_append_at(room, at, n, terms, orders, i);
-        i += 1;
-    }
+    put_to_others(room, n, |part, i| {
+        put_append(part, n, terms, orders, i);
+        append_size(n, i)
+    });
 }

@@ -1,4 +1,4 @@
-// The journal's head and lines.
+// The journal's head and lines. The log is lent as C lends it: its terms and its orders, apart.
 ghost use Rattle.std.specs.Prelude.{◌≡◌, [], ◌∷◌, ◌-◌, ◌≤◌, length};
 ghost use Rattle.digits.specs.Room.{over};
 ghost use Rattle.frames.specs.Message.{number, entry_fields, spell};
@@ -36,7 +36,7 @@ fn put_line_start(room: &mut [u8], next: Record, kept: u16, count: u8)
 }
 
 // So many entries of the lent log from a place of it on, one behind the other. Each is written from where it lies: an array of them would be
-// filled and then copied, and such a copy waits until all that was written before it is in memory.
+// filled and then copied, and such a copy waits until all that was written before it is in memory. (By index: a zip of two parts of the arrays, numbered, is no plainer.)
 pub fn put_logged(
     room: &mut [u8],
     at: usize,
@@ -49,10 +49,8 @@ pub fn put_logged(
     ensures { room.new ≡ over room.old at
         (spell (entry_fields (entries_of terms.now orders.now from count))) }
 {
-    let mut i = 0;
-    while i < count {
+    for i in 0..count {
         frame_writer::put_entry(room, at + 24 * i, terms[from + i], orders[from + i]);
-        i += 1;
     }
 }
 
@@ -69,7 +67,7 @@ pub fn put_line(room: &mut [u8], next: Record, kept: u16, terms: &[u32], orders:
         })) }
 {
     let count = next.last - kept;
-    put_line_start(room, next, kept, (count % 256) as u8);
+    put_line_start(room, next, kept, count as u8);
     put_logged(room, 22, terms, orders, kept as usize, count as usize);
     frame_writer::put_end(room, 22 + 24 * count as usize);
 }

@@ -1,7 +1,8 @@
 -- What is decided, finished with the entry.
 use mathlib.Core.Path.{◌∙◌}
 use Rattle.raft.specs.Event.{step, takes_order}
-use Rattle.record.specs.DecidingLaws.{sound, finished, exit-leaves}
+use Rattle.record.specs.DecidingLaws.{sound, finished}
+use Rattle.record.proofs.RefusalLaws.{exit-leaves}
 use Rattle.events.proofs.order.run_order.Goals as goal
 
 pub returns-in_err-d : goal.returns-in_err-d

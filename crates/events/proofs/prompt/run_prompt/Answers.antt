@@ -2,7 +2,8 @@
 use mathlib.Core.Path.{◌∙◌}
 use Rattle.raft.specs.Event.{step, is_prompted}
 use Rattle.record.specs.GoodLaws.{ready-last}
-use Rattle.record.specs.DecidingLaws.{sound, finished, exit-leaves}
+use Rattle.record.specs.DecidingLaws.{sound, finished}
+use Rattle.record.proofs.RefusalLaws.{exit-leaves}
 use Rattle.events.proofs.prompt.run_prompt.Goals as goal
 
 pub decide-requires : goal.decide-requires

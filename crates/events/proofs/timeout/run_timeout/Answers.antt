@@ -1,7 +1,8 @@
 -- What is decided, finished with the blank, where there is one.
 use mathlib.Core.Path.{◌∙◌}
 use Rattle.raft.specs.Event.{step, times_out}
-use Rattle.record.specs.DecidingLaws.{sound, finished, exit-leaves}
+use Rattle.record.specs.DecidingLaws.{sound, finished}
+use Rattle.record.proofs.RefusalLaws.{exit-leaves}
 use Rattle.events.proofs.timeout.run_timeout.Goals as goal
 
 pub returns-in_err-d : goal.returns-in_err-d

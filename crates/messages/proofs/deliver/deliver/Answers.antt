@@ -22,4 +22,4 @@ current-requires c =
 
 pub returns : goal.returns
 returns c =
-    taken-decides c.args.n _ c.args.f c.args.terms.now c.args.orders.now c.current.result c.taken.ensures (omega (arith, c.if-f-n.false)) c.current.ensures
+    taken-decides c.args.n _ c.args.f c.args.terms.now c.args.orders.now c.current.result (brought c.args.f) c.taken.ensures (omega (arith, c.if-f-n.false)) c.current.ensures

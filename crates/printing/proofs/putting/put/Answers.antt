@@ -1,26 +1,14 @@
--- The text up to a place stands there; the next character goes behind it (`copied_next`).
+-- The part of the room is the text, and the rest is as it was.
 use native.Mathlib.Omega.{arith}
 use mathlib.Core.Path.{refl, ◌∙◌}
-use Prim.Native.Nat.{◌+◌, ◌<◌}
-use lib.ListN.{length, length-set}
-use Rattle.digits.specs.RoomLaws.{over_nothing}
-use Rattle.text.specs.Copying.{copied_next}
-use Rattle.printing.specs.TextLaws.{put_all}
+use lib.ListN.{length}
+use Rattle.std.proofs.Math.Seq.{take-length}
+use Rattle.std.proofs.lemmas.Slice.{put_mid-paste}
+use Rattle.digits.specs.Room.{over}
 use Rattle.printing.proofs.putting.put.Goals as goal
 
-pub loop-i-init : goal.loop-i-init
-loop-i-init c =
-    record { within = omega arith; long = refl; holds = over_nothing c.args.room.now c.args.at }
-
-pub loop-i-preserved : goal.loop-i-preserved
-loop-i-preserved c =
-    let inside : c.args.at + c.loop-i.i < length c.args.room.now = omega (arith, c.loop-i.invariant.within) in
-    record {
-      within = omega arith;
-      long = simp length-set c.loop-i.invariant.long;
-      holds = copied_next c.args.room.now c.args.text.now c.args.at c.loop-i.i inside (omega arith) c.loop-i.invariant.holds;
-    }
-
 pub returns : goal.returns
+unfolding over
 returns c =
-    c.loop-i.invariant.holds ∙ rw (put_all c.args.text.now c.loop-i.i (omega (arith, c.loop-i.invariant.within)))
+    put_mid-paste c.args.at _ c.args.room.now _ c.args.text.now (length c.args.text.now) c.copy_from_slice.ensures.after (omega arith) refl
+    ∙ rw (take-length c.args.text.now)

@@ -1,14 +1,9 @@
 -- The entries up to a place are written; the next goes behind them (`put_logged_next`).
-use Prim.Native.Nat.{◌-◌, ◌≤◌}
-use mathlib.Core.Path.{◌≡◌}
-use lib.ListN.{length}
+use Rattle.std.proofs.Common.{◌≡◌}
 use Rattle.digits.specs.Room.{over}
 use Rattle.frames.specs.Message.{entry_fields, spell}
 use Rattle.raft.specs.Lent.{entries_of}
 use Rattle.writing.proofs.journal_lines.put_logged.Given as goal
 
 abbrev pub invariant-loop-i : goal.invariant-loop-i
-invariant-loop-i l = (l.i ≤ l.count) × (l.room ≡ over l.initial.room l.at (spell (entry_fields (entries_of l.terms l.orders l.from l.i)))) × (length l.room ≡ length l.initial.room)
-
-abbrev pub decreases-loop-i : goal.decreases-loop-i
-decreases-loop-i l = l.count - l.i
+invariant-loop-i l = l.room ≡ over l.fn.room l.at (spell (entry_fields (entries_of l.terms l.orders l.from l.i)))

@@ -1,0 +1,26 @@
+-- 12 where the record breaks a rule; otherwise the event decides.
+use mathlib.Core.Path.{◌∙◌}
+use borrow.Author.Rules.{rules}
+use Rattle.raft.specs.Event.{receives}
+use Rattle.node.specs.LookLaws.{looked_ready, looked_good, exit-bad, exit-runs}
+use Rattle.node.proofs.Node.receive.Goals as goal
+
+pub returns-in_err-look : goal.returns-in_err-look
+returns-in_err-look c =
+    exit-bad c.args.self _ (receives c.args.bytes.now) c.args.terms.now c.args.orders.now c.args.journal.now c.args.messages.now
+    c.from_residual.result c.from_residual.ensures.1 (c.in_err-look.ensures c.args.orders.now)
+
+pub run_bytes-requires : goal.run_bytes-requires
+run_bytes-requires c =
+    looked_ready c.args.self.state c.args.terms.now c.args.orders.now (c.in_ok-look.ensures c.args.orders.now) (search rules) (search rules)
+
+pub returns-in_err-run_bytes : goal.returns-in_err-run_bytes
+returns-in_err-run_bytes c =
+    exit-runs c.args.self _ (receives c.args.bytes.now) c.args.terms.now c.args.orders.now c.args.journal.now c.args.messages.now
+    c.from_residual-in_err-run_bytes.result c.from_residual-in_err-run_bytes.ensures.1 (c.in_ok-look.ensures c.args.orders.now) c.in_err-run_bytes.ensures
+
+pub returns : goal.returns
+returns c =
+    rw c.boxed.ensures
+    (c.in_ok-run_bytes.ensures
+    ∙ looked_good c.args.self.state c.args.terms.now c.args.orders.now (c.in_ok-look.ensures c.args.orders.now) (receives c.args.bytes.now) c.args.journal.now c.args.messages.now)

@@ -1,0 +1,2 @@
+-- What the writing for several boxes is.
+pub mod Others
