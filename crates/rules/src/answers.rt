@@ -1,4 +1,6 @@
-// "Append answer", and the commit that an append or the matching boxes bring.
+// "Append answer", and the commit that an append or the matching boxes bring. The definitions are over a reply's number on the wire, and so is the code.
+#![tactic(auto, unfolding(raft::specs::AppendAnswer::match_after, raft::specs::AppendAnswer::next_heard))]
+
 ghost use Rattle.std.specs.Prelude.{◌≡◌, cond, ◌&&◌, eqb, ltb, ◌≤◌};
 ghost use Rattle.frames.specs.Limits.{log_limit};
 ghost use Rattle.raft.specs.Append.{commit_after};
@@ -11,7 +13,7 @@ pub fn commit_after(own: u16, leaders: u16, end: u16) -> u16
     own.max(leaders.min(end))
 }
 
-// "Yes: match = the larger of match and the index named". The reply is the number on the wire: the definition is over it.
+// "Yes: match = the larger of match and the index named"
 pub fn match_after(reply: u8, index: u16, matched: u16) -> u16
     ensures { result ≡ match_after reply index matched }
 {
@@ -21,7 +23,7 @@ pub fn match_after(reply: u8, index: u16, matched: u16) -> u16
     matched
 }
 
-// "next = the larger of next and match + 1. No: next = the larger of next - 1 and match + 1." The reply is the number on the wire, as above.
+// "next = the larger of next and match + 1. No: next = the larger of next - 1 and match + 1."
 pub fn next_heard(reply: u8, next: u16, matched: u16) -> u16
     requires matched_le_log_limit { matched ≤ log_limit }
     requires le_next { 1 ≤ next }

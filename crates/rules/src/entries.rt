@@ -1,4 +1,5 @@
-// "Append": the entry before, the search for a conflict, and storing what is added. The log is lent, entry i at place i-1.
+// "Append": the entry before, the search for a conflict, and storing what is added. The log is lent as C lends it, its terms and its orders apart, entry i at
+// place i-1.
 ghost use Rattle.std.specs.Prelude.{◌≡◌, List, ℕ, ◌+◌, ◌≤◌, ltb, length};
 ghost use Rattle.digits.specs.Room.{over};
 ghost use Rattle.frames.specs.Limits.{log_limit};
@@ -33,8 +34,8 @@ pub fn lacks(terms: &[u32], index: u16, term: u32) -> bool
     }
 }
 
-// "the search stops at the first entry whose index holds another term": that place, or the end of the log or of what is offered. The terms are the log's own, no more.
-// A loop that yields its place by break: 01's own form for it ("Which shape goes where").
+// "the search stops at the first entry whose index holds another term": that place, or the end of the log or of what is offered. The terms are the log's own, no
+// more. A loop that yields its place by break: the project's own form for this search ("Which shape goes where").
 pub fn search(terms: &[u32], index: usize, offered: &[Entry]) -> usize
     requires { index ≤ length terms.now }
     ensures by_index { (orders : List ℕ) → result ≡ stop (entries_of terms.now orders 0 (length terms.now)) index offered.now }

@@ -1,4 +1,6 @@
-// Sets of boxes as masks: box i has bit i-1.
+// Sets of boxes as masks: box i has bit i-1. A box is a byte, as frames and records have it; that it is one of seven is asked by name (`IsBox`).
+#![tactic(auto, unfolding(raft::specs::Majority::holds, raft::specs::Majority::majority, raft::specs::Record::is_other))]
+
 ghost use Rattle.std.specs.Prelude.{◌≡◌};
 ghost use Rattle.frames.specs.Limits.{IsBox};
 ghost use Rattle.raft.specs.Majority.{bit, holds, majority};

@@ -1,4 +1,7 @@
-// The record's rules that look at a few numbers or at the lent terms alone, in 01's order.
+// The record's rules that look at a few numbers or at the lent terms alone, in 01's order. Each contract is a definition, which its proof may open. Roles are
+// numbers here: the record is whatever the caller hands over, and these rules say which numbers are roles.
+#![tactic(auto, unfolding(raft::specs::Record::is_membership, raft::specs::Record::is_vote, raft::specs::Record::is_role, raft::specs::Record::are_votes, raft::specs::Record::is_progress))]
+
 ghost use Rattle.std.specs.Prelude.{◌≡◌, [], ◌≤◌, length};
 ghost use Rattle.frames.specs.Limits.{IsBox, log_limit};
 ghost use Rattle.frames.specs.Rules.{in_order};

@@ -13,10 +13,10 @@ pub fn put_head(room: &mut [u8], me: u8, mask: u8)
     requires { 9 ≤ length room.old }
     ensures { room.new ≡ over room.old 0 (head me mask) }
 {
-    digits::put_u8(room, 0, 1);
-    digits::put_u8(room, 2, 17);
-    digits::put_u8(room, 4, me);
-    digits::put_u8(room, 6, mask);
+    digits::put(room, 0, 1u8);
+    digits::put(room, 2, 17u8);
+    digits::put(room, 4, me);
+    digits::put(room, 6, mask);
     frame_writer::put_end(room, 8);
 }
 
@@ -26,13 +26,13 @@ fn put_line_start(room: &mut [u8], next: Record, kept: u16, count: u8)
     ensures { room.new ≡ over room.old 0
         (spell (number 1 1 ∷ number 1 16 ∷ number 1 next.me ∷ number 4 next.term ∷ number 1 next.vote ∷ number 2 kept ∷ number 1 count ∷ [])) }
 {
-    digits::put_u8(room, 0, 1);
-    digits::put_u8(room, 2, 16);
-    digits::put_u8(room, 4, next.me);
-    digits::put_u32(room, 6, next.term);
-    digits::put_u8(room, 14, next.vote);
-    digits::put_u16(room, 16, kept);
-    digits::put_u8(room, 20, count);
+    digits::put(room, 0, 1u8);
+    digits::put(room, 2, 16u8);
+    digits::put(room, 4, next.me);
+    digits::put(room, 6, next.term);
+    digits::put(room, 14, next.vote);
+    digits::put(room, 16, kept);
+    digits::put(room, 20, count);
 }
 
 // So many entries of the lent log from a place of it on, one behind the other. Each is written from where it lies: an array of them would be
