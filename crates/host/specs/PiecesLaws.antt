@@ -24,6 +24,7 @@ use Rattle.journal.proofs.OpeningExactly.{next_exactly}
 use Rattle.opening.specs.declared.Block.{Block}
 use Rattle.opening.specs.Calls.{ReplayedTold, told_replay, Replaying, replaying, Tells, none, heading, told_block, Blocks, counted, stopped, replay_each, replaying_lines, ReplaysLines}
 use Rattle.opening.specs.ReplayCode.{line-breaks, line-goes}
+use Rattle.opening.specs.BlockLaws.{goes-line, breaks-line, AllPassed, all_passed, OneBreaks, one-breaks}
 use Rattle.host.specs.Pieces.{Passed, the_head, a_line, a_block}
 
 -- ---- lines in front of others
@@ -74,90 +75,6 @@ module _ (disk : List ℕ) (place : ℕ) (ls : List (List ℕ)) (rest : List ℕ
       → whole_bytes disk ≡ (place + length (strung ls)) + whole_bytes (drop (place + length (strung ls)) disk)
   further-left l =
       omega (arith, l, ap whole_bytes e ∙ counted_in_front ls rest a, ap whole_bytes behind)
-
--- One line replayed, those behind it follow;
-goes-line : (whole n : ℕ) (s t : State) (line : List ℕ) (ls : List (List ℕ)) → replayed s line ≡ next t
-    → replay whole s n (line ∷ ls) ≡ replay whole t (suc n) ls
-unfolding replay go_on
-goes-line whole n s t line ls e = rw e
-
--- and one that breaks a rule is named.
-breaks-line : (whole n : ℕ) (s : State) (line : List ℕ) (ls : List (List ℕ)) → replayed s line ≡ breaks → replay whole s n (line ∷ ls) ≡ broken n
-unfolding replay go_on
-breaks-line whole n s line ls e = rw e
-
--- ---- a block
-
-abbrev state_in : Blocks → State
-state_in x = state_of x.answer.state x.terms x.orders
-
--- Lines that were all replayed.
-record AllPassed (x y : Blocks) (ls : List (List ℕ)) : Type 0 where
-  bytes : y.answer.bytes ≡ x.answer.bytes + length (strung ls)
-  number : y.answer.lines ≡ x.answer.lines + length ls
-  on : (whole n : ℕ) (more : List (List ℕ)) → replay whole (state_in x) n (ls ++ more) ≡ replay whole (state_in y) (n + length ls) more
-
-all_passed : (x : Blocks) (ls : List (List ℕ)) → (replay_each x ls).answer.refusal ≡ 0 → AllPassed x (replay_each x ls) ls
-unfolding replay_each strung
-all_passed x [] z =
-    record { bytes = omega arith; number = omega arith; on = λ whole n more. ap (λ (k : ℕ). replay whole (state_in x) k more) (sym (add-zero n)) }
-all_passed x (line ∷ ls) z = go (all_passed (counted x line one) ls) (eqb one.answer.refusal 0) refl z
-  where
-    one : Replaying
-    one = replaying x.answer.state line x.terms x.orders
-
-    passed : one.answer.refusal ≡ 0 → AllPassed (counted x line one) (replay_each (counted x line one) ls) ls
-        → AllPassed x (replay_each (counted x line one) ls) (line ∷ ls)
-    passed r rest =
-        let goes = line-goes x.answer.state line x.terms x.orders refl r in
-        record {
-          bytes = rest.bytes ∙ omega (arith, length-append line (strung ls));
-          number = rest.number ∙ omega arith;
-          on = λ whole n more.
-              goes-line whole n (state_in x) goes.to line (ls ++ more) goes.is ∙ ap (λ (s : State). replay whole s (suc n) (ls ++ more)) (sym goes.same)
-              ∙ rest.on whole (suc n) more
-              ∙ ap (λ (k : ℕ). replay whole (state_in (replay_each (counted x line one) ls)) k more) (let e : suc n + length ls ≡ n + suc (length ls) = omega arith in e);
-        }
-
-    go : ((replay_each (counted x line one) ls).answer.refusal ≡ 0 → AllPassed (counted x line one) (replay_each (counted x line one) ls) ls)
-        → (c : Bool) → eqb one.answer.refusal 0 ≡ c → (cond c (replay_each (counted x line one) ls) (stopped x)).answer.refusal ≡ 0
-        → AllPassed x (cond c (replay_each (counted x line one) ls) (stopped x)) (line ∷ ls)
-    go f true e p = passed (eqb-true one.answer.refusal 0 e) (f p)
-    go f false e p = absurd (omega (arith, p))
-
--- Lines of which one breaks a rule: those before it were counted.
-record OneBreaks (x y : Blocks) (ls : List (List ℕ)) : Type 0 where
-  before : ℕ
-  number : y.answer.lines ≡ x.answer.lines + before
-  on : (whole n : ℕ) (more : List (List ℕ)) → replay whole (state_in x) n (ls ++ more) ≡ broken (n + before)
-
-one-breaks : (x : Blocks) (ls : List (List ℕ)) → x.answer.refusal ≡ 0 → ((replay_each x ls).answer.refusal ≡ 0 → ⊥) → OneBreaks x (replay_each x ls) ls
-unfolding replay_each
-one-breaks x [] s z = absurd (z s)
-one-breaks x (line ∷ ls) s z = go (one-breaks (counted x line one) ls refl) (eqb one.answer.refusal 0) refl z
-  where
-    one : Replaying
-    one = replaying x.answer.state line x.terms x.orders
-
-    passed : one.answer.refusal ≡ 0 → OneBreaks (counted x line one) (replay_each (counted x line one) ls) ls
-        → OneBreaks x (replay_each (counted x line one) ls) (line ∷ ls)
-    passed r rest =
-        let goes = line-goes x.answer.state line x.terms x.orders refl r in
-        record {
-          before = suc rest.before;
-          number = rest.number ∙ omega arith;
-          on = λ whole n more.
-              goes-line whole n (state_in x) goes.to line (ls ++ more) goes.is ∙ ap (λ (s : State). replay whole s (suc n) (ls ++ more)) (sym goes.same)
-              ∙ rest.on whole (suc n) more ∙ ap broken (let e : suc n + rest.before ≡ n + suc rest.before = omega arith in e);
-        }
-
-    go : (((replay_each (counted x line one) ls).answer.refusal ≡ 0 → ⊥) → OneBreaks (counted x line one) (replay_each (counted x line one) ls) ls)
-        → (c : Bool) → eqb one.answer.refusal 0 ≡ c → ((cond c (replay_each (counted x line one) ls) (stopped x)).answer.refusal ≡ 0 → ⊥)
-        → OneBreaks x (cond c (replay_each (counted x line one) ls) (stopped x)) (line ∷ ls)
-    go f true e p = passed (eqb-true one.answer.refusal 0 e) (f p)
-    go f false e p =
-        let bad = line-breaks x.answer.state line x.terms x.orders refl (eqb-false one.answer.refusal 0 e) in
-        record { before = 0; number = omega arith; on = λ whole n more. breaks-line whole n (state_in x) line (ls ++ more) bad ∙ ap broken (sym (add-zero n)) }
 
 -- ---- each piece
 

@@ -5,7 +5,7 @@ use mathlib.Core.Path.{◌≡◌, sym, ap, ◌∙◌}
 use Rattle.opening.specs.Calls.{Opening, Replaying, Blocks, none}
 use Rattle.opening.specs.ToldLaws.{told_open-one, told_replay-one, told_block-one}
 use Rattle.opening.proofs.whole.open.Reads as opens
-use Rattle.opening.proofs.whole.replay.Reads as replay
+use Rattle.opening.proofs.blocks.replay.Reads as replay
 use Rattle.opening.proofs.blocks.replay_head.Reads as replay-head
 use Rattle.opening.proofs.blocks.replay_lines.Reads as replay-lines
 

@@ -1,7 +1,7 @@
 -- Block by block: a head alone, and the lines of a block one after the other. Assumes nothing.
 use Rattle.std.specs.Prelude.{ℕ, ◌+◌, ◌-◌, ◌≤◌, Bool, List, take, drop, Ok, Err}
 use Rattle.std.proofs.Common.{arith, ◌∙◌}
-use Rattle.std.proofs.Math.Path.{◌≡◌, refl, sym}
+use Rattle.std.proofs.Math.Path.{◌≡◌, refl, sym, ap}
 use Rattle.std.proofs.Math.Bool.{true, false}
 use Rattle.std.proofs.Math.ListN.{length, length-take}
 use Rattle.frames.specs.Limits.{log_limit}
@@ -15,7 +15,7 @@ use Rattle.record.specs.declared.Record.{Record}
 use Rattle.record.specs.Calls.{record_of}
 use Rattle.journal.specs.Lines.{lines, mask_in}
 use Rattle.journal.specs.Opening.{is_head}
-use Rattle.opening.specs.Calls.{Replays, heading, Heads, Blocks, stopped, replay_each, replaying_lines, ReplaysLines}
+use Rattle.opening.specs.Calls.{ReplayedTold, Replays, heading, Heads, Blocks, stopped, replay_each, replaying_lines, ReplaysLines}
 use Rattle.opening.specs.ToldLaws.{not_0}
 use Rattle.opening.specs.ReplayCode.{line-goes, broken-number, broken-leaves, lines_end, lines_next}
 
@@ -38,6 +38,9 @@ heading-fits me line = go (is_head me line) refl
     go : (b : Bool) → is_head me line ≡ b → (heading me line).state.last ≤ log_limit
     go true e = rw e (omega arith)
     go false e = rw e (omega arith)
+
+pub head-fits : (me : ℕ) (line : List ℕ) (n : Record) → Heads me line (Ok n) → n.last ≤ log_limit
+head-fits me line n e = let last = ap (λ (x : ReplayedTold). x.state.last) e in omega (arith, last, heading-fits me line)
 
 -- ---- the lines
 

@@ -1,6 +1,6 @@
 -- The calls: the structs that the code has, the lent log, and what a call leaves in each. An answer is told as 01 tells it: its number, 0 where there is no refusal,
 -- and the values beside it. Assumes nothing.
-use Rattle.std.specs.Prelude.{ℕ, ◌+◌, ◌≤◌, ◌≡◌, Bool, true, cond, ◌&&◌, List, [], ◌∷◌, eqb, leb, length, drop, Result, Ok, Err}
+use Rattle.std.specs.Prelude.{ℕ, ◌+◌, ◌≤◌, ◌≡◌, Bool, true, cond, ◌&&◌, List, [], ◌∷◌, eqb, leb, length, Result, Ok, Err}
 use Rattle.digits.specs.Room.{over}
 use Rattle.frames.specs.Limits.{log_limit, entry_limit}
 use Rattle.frames.specs.declared.Entry.{Entry}
@@ -9,7 +9,7 @@ use Rattle.frames.specs.Refusal.{number, code}
 use Rattle.frames.specs.Fields.{listed}
 use Rattle.raft.specs.Record.{fresh, with_term, with_vote, with_log}
 use Rattle.raft.specs.Journal.{Line}
-use Rattle.raft.specs.Lent.{entries_of, terms_of, orders_of}
+use Rattle.raft.specs.Lent.{terms_of, orders_of}
 use Rattle.record.specs.declared.Record.{Record}
 use Rattle.record.specs.Calls.{with_entries, state_of, record_of}
 use Rattle.opening.specs.declared.LineFields.{LineFields}
@@ -17,14 +17,9 @@ use Rattle.opening.specs.declared.Opened as answers
 use Rattle.opening.specs.declared.Unopened.{Unopened}
 use Rattle.opening.specs.declared.Unopened.TheVariants.{NoHead, BadLine}
 use Rattle.opening.specs.declared.Block.{Block}
-use Rattle.journal.specs.Lines.{lines, whole_bytes, mask_in, count_in, line_shaped}
+use Rattle.journal.specs.Lines.{lines, mask_in, count_in, line_shaped}
 use Rattle.journal.specs.Opening.{restarted, is_of_box, term_holds, vote_is, vote_stays, Replayed, next, breaks, replayed}
-use Rattle.journal.specs.Opening.{Opened, opened, headless, broken, replay, is_head, opening}
-
--- The log is lent whole.
-pub record LentLog (terms orders : List ℕ) : Type 0 where
-  pub terms_long : length terms ≡ log_limit
-  pub orders_long : length orders ≡ log_limit
+use Rattle.journal.specs.Opening.{Opened, opened, headless, broken, is_head, opening}
 
 -- ---- one line
 
@@ -110,25 +105,6 @@ abbrev pub told_open : Result answers.Opened Unopened → OpenedTold
 told_open (Ok found) = record { refusal = 0; state = found.state; bytes = found.bytes; fault = 0 }
 told_open (Err NoHead) = record { refusal = 11; state = none; bytes = 0; fault = 0 }
 told_open (Err (BadLine line)) = record { refusal = 10; state = none; bytes = 0; fault = line }
-
--- What the replay of all lines leaves: the answer, and a log made aside that is the record's; of a log that is not handed over nothing is said.
-unfoldable pub Found : OpenedTold → List ℕ → List ℕ → Opened → Type 0
-Found r terms orders (opened s bytes) =
-    (r ≡ record { refusal = 0; state = record_of s; bytes = bytes; fault = 0 }) × (entries_of terms orders 0 (length s.log) ≡ s.log)
-    × (length s.log ≤ log_limit)
-Found r terms orders headless = ⊥
-Found r terms orders (broken line) = r ≡ record { refusal = 10; state = none; bytes = 0; fault = line }
-
--- The lines from a place on, from a struct and a lent log on: what that requires, and what it leaves.
-pub record Begins (start : Record) (bytes : List ℕ) (first : ℕ) (terms orders : List ℕ) : Type 0 where
-  pub lent : LentLog terms orders
-  pub inside : first ≤ length bytes
-  pub behind : 2 ≤ first
-  pub room : start.last ≤ log_limit
-
-abbrev pub Finds : Record → (bytes : List ℕ) (first : ℕ) (terms orders : List ℕ) → Result answers.Opened Unopened → (terms' orders' : List ℕ) → Type 0
-Finds start bytes first terms orders answer terms' orders' =
-    Found (told_open answer) terms' orders' (replay (first + whole_bytes (drop first bytes)) (state_of start terms orders) 2 (lines (drop first bytes)))
 
 unfoldable pub opening_by : Opened → List ℕ → List ℕ → Opening
 opening_by (opened s bytes) terms orders =

@@ -3,6 +3,7 @@ pub mod Calls
 pub mod ToldLaws
 pub mod CodeLaws
 pub mod ReplayCode
+pub mod BlockLaws
 pub mod OpenCode
 pub mod BlockCode
 pub mod OpenedExactly

@@ -1,7 +1,8 @@
 -- Opening a whole journal, as the code comes to it. Assumes nothing.
-use Rattle.std.specs.Prelude.{ℕ, ◌+◌, ◌≤◌, ◌≡◌, Bool, ◌&&◌, List, ◌∷◌, ◌++◌, length, drop, Result, Ok, Err}
+use Rattle.std.specs.Prelude.{ℕ, ◌+◌, ◌-◌, ◌≤◌, ◌≡◌, Bool, ◌&&◌, List, [], ◌∷◌, ◌++◌, length, drop, Ok, Err}
 use Rattle.std.proofs.Math.Nat.{zero-add}
-use Rattle.std.proofs.Common.{arith, ◌∙◌, length-take, length-take-le, eqb-true}
+use Rattle.std.proofs.Common.{arith, subst, ◌∙◌, length-take, length-take-le, take_all, length-drop, eqb-true}
+use mathlib.Core.List.{append-nil}
 use Rattle.std.proofs.Math.Path.{refl, sym, ap}
 use Rattle.std.proofs.Math.Bool.{true, false}
 use Rattle.std.proofs.Math.Dec.{eqb}
@@ -10,22 +11,26 @@ use Rattle.std.proofs.lemmas.Bool.{eqb-false}
 use Rattle.digits.specs.Room.{over}
 use Rattle.digits.specs.Tests.{and_left}
 use Rattle.frames.specs.Limits.{log_limit}
+use Rattle.frames.specs.declared.refusal.Refusal.{Refusal}
+use Rattle.frames.specs.Refusal.{code}
 use Rattle.text.specs.Lines.{first_line}
 use Rattle.text.specs.LinesLaws.{first-most}
-use Rattle.raft.specs.Record.{fresh}
-use Rattle.raft.specs.Lent.{entries_of, terms_of, orders_of}
-use Rattle.raft.specs.LentLaws.{terms_are, orders_are}
+use Rattle.raft.specs.Record.{State, fresh}
+use Rattle.raft.specs.Lent.{entries_of}
+use Rattle.raft.specs.LentLaws.{length-entries_of, terms_are, orders_are}
 use Rattle.record.specs.declared.Record.{Record}
 use Rattle.record.specs.Calls.{state_of, record_of}
+use Rattle.record.specs.SameLaws.{record_same}
 use Rattle.journal.specs.Lines.{lines, whole_bytes, box_in, mask_in, head_shaped}
-use Rattle.journal.specs.Opening.{Opened, opened, headless, broken, replay, is_head, open_lines, opening}
-use Rattle.opening.specs.declared.Opened as answers
-use Rattle.opening.specs.declared.Unopened.{Unopened}
-use Rattle.opening.specs.declared.Unopened.TheVariants.{NoHead}
-use Rattle.opening.specs.Calls.{LentLog, OpenedTold, told_open, Found, Begins, Finds, opening_by, opens, Opens}
-use Rattle.opening.specs.ToldLaws.{not_opened}
+use Rattle.journal.proofs.LinesLaws.{lines-whole, whole-lines, whole-most}
+use Rattle.journal.specs.Opening.{opened, headless, broken, replay, is_head, open_lines, opening}
+use Rattle.opening.specs.declared.Unopened.TheVariants.{NoHead, BadLine}
+use Rattle.opening.specs.declared.Block.{Block}
+use Rattle.opening.specs.Calls.{opening_by, opens, Opens, Blocks, told_block, replay_each, replaying_lines, ReplaysLines}
+use Rattle.opening.specs.ToldLaws.{not_0}
 use Rattle.opening.specs.CodeLaws.{head_nine_long}
 use Rattle.opening.specs.ReplayCode.{lines_end, lines_next}
+use Rattle.opening.specs.BlockLaws.{AllPassed, all_passed, OneBreaks, one-breaks, lines_few}
 
 module _ (me : ℕ) (bytes : List ℕ) {end : ℕ} (e : end ≡ 0 + first_line (drop 0 bytes)) where
   -- no head
@@ -67,17 +72,74 @@ module _ (me : ℕ) (bytes : List ℕ) {end : ℕ} (e : end ≡ 0 + first_line (
 
     -- the lines behind it begin with the fresh record's struct, whatever log is lent
     module _ {n : Record} (g : n ≡ record_of (fresh me mask)) where
-      pub open_begins : {terms orders : List ℕ} → LentLog terms orders → Begins n bytes end terms orders
-      unfolding fresh
-      open_begins lent = record { lent = lent; inside = head_end.1; behind = head_end.0; room = rw g (omega arith) }
-
-      fresh-state : (terms-made orders-made : List ℕ) → state_of n terms-made orders-made ≡ fresh me mask
+      fresh-state : (terms orders : List ℕ) → state_of n terms orders ≡ fresh me mask
       unfolding fresh entries_of
-      fresh-state terms-made orders-made = rw g
+      fresh-state terms orders = rw g
 
-      pub open_finds : (terms-made₀ orders-made₀ terms-made orders-made : List ℕ) (found : Result answers.Opened Unopened)
-          → Finds n bytes end terms-made₀ orders-made₀ found terms-made orders-made → Found (told_open found) terms-made orders-made (opening me bytes)
-      open_finds terms-made₀ orders-made₀ terms-made orders-made found k = rw (open_head, ← fresh-state terms-made₀ orders-made₀) k
+      fresh-fits : n.last ≤ log_limit
+      unfolding fresh
+      fresh-fits = rw g (omega arith)
+
+      -- and are one block of whole lines.
+      module _ {terms₀ orders₀ : List ℕ} {r : Block} {terms orders : List ℕ}
+          (given : ReplaysLines n (take (length bytes - end) (drop end bytes)) terms₀ orders₀ r terms orders) where
+        c : ReplaysLines n (drop end bytes) terms₀ orders₀ r terms orders
+        c =
+            subst (λ l. ReplaysLines n l terms₀ orders₀ r terms orders)
+            (take_all (length bytes - end) (drop end bytes) (omega (arith, length-drop end bytes))) given
+
+        abbrev behind : List (List ℕ)
+        behind = lines (drop end bytes)
+
+        abbrev begun : Blocks
+        begun = record { answer = record { refusal = 0; state = n; bytes = 0; lines = 0 }; terms = terms₀; orders = orders₀ }
+
+        abbrev ended : Blocks
+        ended = record { answer = told_block r; terms = terms; orders = orders }
+
+        leaves : replay_each begun behind ≡ ended
+        unfolding replaying_lines
+        leaves = sym c.leaves
+
+        abbrev whole : ℕ
+        whole = end + whole_bytes (drop end bytes)
+
+        from_here : opening me bytes ≡ replay whole (state_of n terms₀ orders₀) 2 (behind ++ [])
+        from_here =
+            open_head ∙ ap (λ (s : State). replay whole s 2 behind) (sym (fresh-state terms₀ orders₀))
+            ∙ ap (replay whole (state_of n terms₀ orders₀) 2) (sym (append-nil behind))
+
+        -- It fits what is lent, and its lines are no more than its bytes.
+        pub block-room : r.state.last ≤ log_limit
+        block-room = c.room fresh-fits
+
+        pub block_few : r.lines ≤ length bytes
+        block_few =
+            let few = subst (λ (y : Blocks). y.answer.lines + 0 ≤ y.answer.bytes + 0) leaves (lines_few begun behind (lines-whole (drop end bytes))) in
+            omega (arith, few, c.inside, length-drop end bytes)
+
+        pub block_inside : end + r.bytes ≤ length bytes
+        block_inside = omega (arith, c.inside, head_end.1, length-drop end bytes)
+
+        -- All were good,
+        pub block_opens : r.end ≡ Ok tt → opening me bytes ≡ opened (state_of r.state terms orders) (end + r.bytes)
+        unfolding replay
+        block_opens z =
+            let passed =
+            subst (λ y. AllPassed begun y behind) leaves
+            (all_passed begun behind (ap (λ (y : Blocks). y.answer.refusal) leaves ∙ ap code z)) in
+            let counted = ap length (whole-lines (drop end bytes)) in
+            from_here ∙ passed.on whole 2 []
+            ∙ ap (opened (state_of r.state terms orders))
+            (omega (arith, passed.bytes, counted, length-take (whole_bytes (drop end bytes)) (drop end bytes), whole-most (drop end bytes)))
+
+        -- or one breaks a rule, and is named.
+        pub block_breaks : (why : Refusal) → r.end ≡ Err why → opening me bytes ≡ broken (2 + r.lines)
+        block_breaks why z =
+            let stop =
+            subst (λ y. OneBreaks begun y behind) leaves
+            (one-breaks begun behind refl (λ q. not_0 why (sym (ap code z) ∙ sym (ap (λ (y : Blocks). y.answer.refusal) leaves) ∙ q))) in
+            from_here ∙ stop.on whole 2 [] ∙ ap broken (omega (arith, stop.number))
 
 -- ---- the answer
 
@@ -93,40 +155,18 @@ module _ (me : ℕ) (bytes terms orders : List ℕ) where
   opens-headless e = rw e
 
   -- a line that breaks a rule
-  module _ (terms-made orders-made : List ℕ) (why : Unopened) (k : Found (told_open (Err why)) terms-made orders-made (opening me bytes)) where
-    pub opens-broken : Opens me bytes terms orders (Err why) terms orders
-    unfolding opens opening_by Found
-    opens-broken = go (opening me bytes) refl k
-      where
-        go : (o : Opened) → opening me bytes ≡ o → Found (told_open (Err why)) terms-made orders-made o → Opens me bytes terms orders (Err why) terms orders
-        go (opened s n) e f = absurd (not_opened why (ap (λ (x : OpenedTold). x.refusal) f.0))
-        go headless e f = absurd f
-        go (broken line) e f = rw (e, f)
+  pub opens-broken : (line : ℕ) → opening me bytes ≡ broken line → Opens me bytes terms orders (Err (BadLine line)) terms orders
+  unfolding opens opening_by
+  opens-broken line e = rw e
 
-  -- all lines were good: the log fits,
-  module _ (terms-made orders-made : List ℕ) (found : answers.Opened) (k : Found (told_open (Ok found)) terms-made orders-made (opening me bytes)) where
-    pub found-room : found.state.last ≤ log_limit
-    unfolding Found
-    found-room = go (opening me bytes) k
-      where
-        go : (o : Opened) → Found (told_open (Ok found)) terms-made orders-made o → found.state.last ≤ log_limit
-        go (opened s n) f = let same = ap (λ (x : OpenedTold). x.state) f.0 in rw same f.2
-        go headless f = absurd f
-        go (broken line) f = absurd (omega (arith, ap (λ (x : OpenedTold). x.refusal) f))
-
-    -- and is handed over
-    pub opens-found : {terms' orders' : List ℕ} → length terms-made ≡ log_limit → length orders-made ≡ log_limit
-        → terms' ≡ over terms 0 (take found.state.last terms-made) → orders' ≡ over orders 0 (take found.state.last orders-made)
-        → Opens me bytes terms orders (Ok found) terms' orders'
-    unfolding opens opening_by Found
-    opens-found {terms'} {orders'} p q t o = go (opening me bytes) refl k
-      where
-        go : (x : Opened) → opening me bytes ≡ x → Found (told_open (Ok found)) terms-made orders-made x → Opens me bytes terms orders (Ok found) terms' orders'
-        go (opened s n) e f =
-            let log = s.log in
-            let te : take (length log) terms-made ≡ terms_of log = sym (terms_are terms-made orders-made 0 (length log) (omega (arith, f.2))) ∙ ap terms_of f.1 in
-            let od : take (length log) orders-made ≡ orders_of log = sym (orders_are terms-made orders-made 0 (length log) (omega (arith, f.2))) ∙ ap orders_of f.1 in
-            let same = ap (λ (x : OpenedTold). x.state) f.0 in
-            rw (e, t, o, f.0, same, te, od)
-        go headless e f = absurd f
-        go (broken line) e f = absurd (omega (arith, ap (λ (x : OpenedTold). x.refusal) f))
+  -- all lines were good: the log that was made is handed over
+  pub opens-found : (b : Record) (made-terms made-orders : List ℕ) (n : ℕ) → opening me bytes ≡ opened (state_of b made-terms made-orders) n
+      → b.last ≤ length made-terms → b.last ≤ length made-orders → {terms' orders' : List ℕ}
+      → terms' ≡ over terms 0 (take b.last made-terms) → orders' ≡ over orders 0 (take b.last made-orders)
+      → Opens me bytes terms orders (Ok (record { state = b; bytes = n })) terms' orders'
+  unfolding opens opening_by
+  opens-found b made-terms made-orders n e p q t o =
+      let long = length-entries_of made-terms made-orders 0 b.last in
+      let te = terms_are made-terms made-orders 0 b.last (omega arith) in
+      let od = orders_are made-terms made-orders 0 b.last (omega arith) in
+      rw (e, t, o, te, od, ← record_same b (entries_of made-terms made-orders 0 b.last) long) refl

@@ -1,13 +1,11 @@
 -- One line and all lines, as the code comes to them: the answer, the record's struct and the lent log. Assumes nothing.
-use Rattle.std.specs.Prelude.{ℕ, ◌+◌, ◌-◌, ◌≤◌, ◌<◌, min, ◌≡◌, Bool, cond, ◌&&◌, List, [], ◌∷◌, ◌++◌, leb, length, take, drop, Ok, Err}
+use Rattle.std.specs.Prelude.{ℕ, ◌+◌, ◌≤◌, ◌<◌, min, ◌≡◌, Bool, cond, ◌&&◌, List, [], ◌∷◌, ◌++◌, leb, length, take, drop, Ok, Err}
 use Rattle.std.proofs.Common.{arith, ◌∙◌, true≢false, length-append, length-take, take-append-drop, length-take-le, drop-drop, leb-true}
-use Rattle.std.proofs.Math.Numerals.{add-one}
 use Rattle.std.proofs.Math.Path.{refl, sym, ap}
 use Rattle.std.proofs.Math.Bool.{true, false, and-false}
 use Rattle.digits.specs.Room.{over}
 use Rattle.digits.specs.Tests.{and_left, and_right}
 use Rattle.frames.specs.declared.Entry.{Entry}
-use Rattle.frames.specs.declared.refusal.Refusal.{Refusal}
 use Rattle.frames.specs.declared.refusal.Refusal.TheVariants.{BadLine}
 use Rattle.frames.specs.Limits.{log_limit, entry_limit}
 use Rattle.frames.specs.Fields.{listed}
@@ -15,7 +13,7 @@ use Rattle.frames.specs.Clauses.{four}
 use Rattle.frames.specs.Laws.{length-listed, listed-take}
 use Rattle.frames.proofs.ReadingLaws.{length-entries}
 use Rattle.text.specs.Lines.{first_line}
-use Rattle.text.specs.LinesLaws.{first-most, end_inside}
+use Rattle.text.specs.LinesLaws.{first-most}
 use Rattle.raft.specs.Record.{State}
 use Rattle.raft.specs.Journal.{Line}
 use Rattle.raft.specs.Lent.{entries_of, terms_of, orders_of}
@@ -26,10 +24,9 @@ use Rattle.record.specs.SameLaws.{record_same, lent_same, written-log}
 use Rattle.journal.specs.Lines.{lines, whole_bytes, count_in, line_shaped, line_in}
 use Rattle.journal.proofs.LinesLaws.{lines_none, lines-first, counted_none, counted-line}
 use Rattle.journal.specs.Opening.{restarted, is_of_box, term_holds, vote_is, vote_stays, kept_holds, count_holds, entries_hold, allows, after}
-use Rattle.journal.specs.Opening.{Replayed, next, breaks, replayed, Opened, go_on, replay}
+use Rattle.journal.specs.Opening.{Replayed, next, breaks, replayed}
 use Rattle.opening.specs.declared.LineFields.{LineFields}
-use Rattle.opening.specs.Calls.{LentLog, line_of, allows_numbers, Advances, ReplayedTold, Replaying, replaying_by, replaying, Tells, Replays, none, Found, Begins}
-use Rattle.opening.specs.ToldLaws.{not_0}
+use Rattle.opening.specs.Calls.{line_of, allows_numbers, Advances, ReplayedTold, Replaying, replaying_by, replaying, Tells, Replays}
 use Rattle.opening.specs.CodeLaws.{first-none, first-whole, allows-by, Numbers, numbers}
 
 -- ---- one line
@@ -72,7 +69,7 @@ module _ (b : Record) (bytes terms orders : List ℕ) where
 
   -- a good line
   module _ (l : LineFields) (h : line_shaped bytes ≡ true) (e : line_of l ≡ line_in bytes) (a : allows s (line_of l) ≡ true)
-      (lent : LentLog terms orders) where
+      (terms_long : length terms ≡ log_limit) (orders_long : length orders ≡ log_limit) where
     abbrev es : List Entry
     es = listed l.entries 0 l.count
 
@@ -102,8 +99,8 @@ module _ (b : Record) (bytes terms orders : List ℕ) where
     stored : (over terms l.kept (terms_of es) ≡ over terms 0 (terms_of log)) × (over orders l.kept (orders_of es) ≡ over orders 0 (orders_of log))
     stored =
         rw (← front) (
-          stored-terms terms orders l.kept l.kept es (omega arith) (omega (arith, fits.room, lent.terms_long)) (omega (arith, fits.room, lent.orders_long)),
-          stored-orders terms orders l.kept l.kept es (omega arith) (omega (arith, fits.room, lent.terms_long)) (omega (arith, fits.room, lent.orders_long)),
+          stored-terms terms orders l.kept l.kept es (omega arith) (omega (arith, fits.room, terms_long)) (omega (arith, fits.room, orders_long)),
+          stored-orders terms orders l.kept l.kept es (omega arith) (omega (arith, fits.room, terms_long)) (omega (arith, fits.room, orders_long)),
         )
 
     goes : replayed s bytes ≡ next (after s (line_of l))
@@ -221,72 +218,3 @@ module _ (bytes : List ℕ) (at : ℕ) (h : at ≤ length bytes) where
 
       long : length line ≡ first_line rest
       long = length-take-le (first_line rest) rest (first-most rest)
-
--- ---- the loop
-
-module _ (bytes : List ℕ) (first : ℕ) (start : State) where
-  abbrev whole : ℕ
-  whole = first + whole_bytes (drop first bytes)
-
-  abbrev all : Opened
-  all = replay whole start 2 (lines (drop first bytes))
-
-  -- What was replayed up to a place, and what is to be replayed yet, make the whole opening.
-  pub record Reached (state : Record) (terms orders : List ℕ) (at number : ℕ) : Type 0 where
-    pub lent : LentLog terms orders
-    pub inside : at ≤ length bytes
-    pub counted : number ≤ at
-    pub room : state.last ≤ log_limit
-    pub bytes_left : whole ≡ at + whole_bytes (drop at bytes)
-    pub same : all ≡ replay whole (state_of state terms orders) number (lines (drop at bytes))
-
-pub reached-first : {start : Record} {bytes : List ℕ} {first : ℕ} {terms orders : List ℕ} → Begins start bytes first terms orders
-    → Reached bytes first (state_of start terms orders) start terms orders first 2
-reached-first b =
-    record { lent = b.lent; inside = b.inside; counted = b.behind; room = b.room; bytes_left = refl; same = refl }
-
-module _ {bytes : List ℕ} {first : ℕ} {start : State} {state : Record} {terms orders : List ℕ} {at number : ℕ}
-    (s : Reached bytes first start state terms orders at number) {end : ℕ} (e : end ≡ at + first_line (drop at bytes)) where
-  -- no line is left
-  pub reached_end : end ≡ at → Found (record { refusal = 0; state = state; bytes = at; fault = 0 }) terms orders (all bytes first start)
-  unfolding Found replay
-  reached_end z =
-      rw (s.same, (lines_end bytes at s.inside none_left).0)
-      (rw (all_passed, ← record_same state (entries_of terms orders 0 state.last) long), rw long, rw long s.room)
-    where
-      none_left : first_line (drop at bytes) ≡ 0
-      none_left = omega (arith, e, z)
-
-      all_passed : whole bytes first start ≡ at
-      all_passed = s.bytes_left ∙ omega (arith, (lines_end bytes at s.inside none_left).1)
-
-      long : length (entries_of terms orders 0 state.last) ≡ state.last
-      long = length-entries_of terms orders 0 state.last
-
-  module _ (z : end ≡ at → ⊥) where
-    some : first_line (drop at bytes) ≡ 0 → ⊥
-    some q = z (omega (arith, e, q))
-
-    gone : end - at ≡ first_line (drop at bytes)
-    gone = omega (arith, e)
-
-    -- a line that breaks a rule
-    pub reached-broken : (r : Refusal) {terms' orders' : List ℕ} → Replays state (take (end - at) (drop at bytes)) terms orders (Err r) terms' orders'
-        → Found (record { refusal = 10; state = none; bytes = 0; fault = number }) terms' orders' (all bytes first start)
-    unfolding Found replay go_on
-    reached-broken r a = rw (s.same, (lines_next bytes at s.inside some).0, ← gone, line-breaks _ _ _ _ a (not_0 r)) refl
-
-    -- and a good one
-    pub reached-next : {next : Record} {terms' orders' : List ℕ} → Replays state (take (end - at) (drop at bytes)) terms orders (Ok next) terms' orders'
-        → LentLog terms' orders' → Reached bytes first start next terms' orders' end (number + 1)
-    unfolding replay go_on
-    reached-next a lent =
-        let goes = line-goes _ _ _ _ a refl in
-        record {
-          lent = lent;
-          inside = end_inside bytes s.inside e;
-          counted = omega (arith, e, s.counted, z);
-          room = goes.room;
-          bytes_left = rw e (omega (arith, s.bytes_left, (lines_next bytes at s.inside some).1));
-          same = s.same ∙ rw ((lines_next bytes at s.inside some).0, ← e, ← gone, goes.is, goes.same, add-one number);
-        }

@@ -9,11 +9,11 @@ mod blocks;
 mod lines;
 mod whole;
 
-pub use blocks::{replay_head, replay_lines};
+pub use blocks::{replay, replay_head, replay_lines};
 use frames::{Entry, Fields, Refusal};
 pub use lines::is_head_shaped;
 use record::Record;
-pub use whole::{open, replay};
+pub use whole::open;
 
 // What a journal line tells: "01, 10, box, term 4, vote 1, kept 2, count 1, entries".
 #[derive(Clone, Copy)]

@@ -6,8 +6,8 @@ use Rattle.opening.proofs.blocks.replay_lines.Goals as goal
 pub loop-at-init : goal.loop-at-init
 loop-at-init c = counted-first _ _ _ _
 
-pub slice_bounds-replay_line-end : goal.slice_bounds-replay_line-end
-slice_bounds-replay_line-end c =
+pub slice_bounds-replay-end : goal.slice_bounds-replay-end
+slice_bounds-replay-end c =
     end_inside _ c.loop-at.invariant.inside c.line_end-end.ensures
 
 pub loop-at-preserved : goal.loop-at-preserved

@@ -1,62 +1,63 @@
 -- No head, a line that breaks a rule, or the log handed over (`opens-found`).
-use borrow.Author.Rules.{rules}
 use native.Mathlib.Omega.{arith}
 use mathlib.Core.Path.{◌∙◌, ap}
 use lib.ListN.{length-take}
-use Rattle.std.specs.Prelude.{◌≤◌, Ok, Err}
+use Rattle.std.specs.Prelude.{◌≤◌, length, Err}
 use Rattle.std.proofs.lemmas.Result.{err_from_is_err_and}
 use Rattle.frames.specs.Limits.{log_limit}
 use Rattle.text.specs.LinesLaws.{first-most}
 use Rattle.opening.specs.CodeLaws.{mask-none, mask-some}
-use Rattle.opening.specs.OpenCode.{open_headless, open_begins, open_finds, opens-headless, opens-broken, opens-found, found-room, handed_over}
+use Rattle.opening.specs.OpenCode.{open_headless, block-room, block_few, block_opens, block_breaks, opens-headless, opens-broken, opens-found, handed_over}
 use Rattle.opening.proofs.whole.open.Goals as goal
 
 pub slice_bounds-head_mask-end : goal.slice_bounds-head_mask-end
 slice_bounds-head_mask-end c =
-    simp length-take (omega (arith, c.line_end-end.ensures, first-most c.args.bytes.now))
+    simp length-take (omega (arith, c.line_end-head.ensures, first-most c.args.bytes.now))
 
 pub returns-in_err-mask : goal.returns-in_err-mask
 returns-in_err-mask c =
     let given = err_from_is_err_and c.from_residual.result c.from_residual.ensures.1 in
     let (head, why) = mask-none c.args.me _ _ c.head_mask.ensures c.ok_or.ensures.value c.in_err-mask.was in
     let is = given.1 ∙ ap Err (given.2 ∙ why) in
-    let headless = open_headless c.args.me c.args.bytes.now c.line_end-end.ensures head in
+    let headless = open_headless c.args.me c.args.bytes.now c.line_end-head.ensures head in
     rw is (opens-headless c.args.me c.args.bytes.now c.args.terms.now c.args.orders.now headless)
 
-pub replay_all-requires : goal.replay_all-requires
-replay_all-requires c =
-    let (head, mask) = mask-some c.args.me _ _ c.head_mask.ensures c.ok_or.ensures.value c.in_ok-mask.was in
-    open_begins c.args.me c.args.bytes.now c.line_end-end.ensures head mask c.fresh-start.ensures
-    (record { terms_long = search rules; orders_long = search rules })
+pub slice_bounds-replay_lines-count : goal.slice_bounds-replay_lines-count
+slice_bounds-replay_lines-count c =
+    omega (arith, c.line_end-head.ensures, first-most c.args.bytes.now)
 
-pub returns-in_err-found : goal.returns-in_err-found
-returns-in_err-found c =
-    let given = err_from_is_err_and c.from_residual-in_err-found.result c.from_residual-in_err-found.ensures.1 in
+pub slice_bounds-replay_lines-start : goal.slice_bounds-replay_lines-start
+slice_bounds-replay_lines-start c =
+    omega (arith, c.line_end-head.ensures, first-most c.args.bytes.now)
+
+pub overflow_add-result : goal.overflow_add-result
+overflow_add-result c =
     let (head, mask) = mask-some c.args.me _ _ c.head_mask.ensures c.ok_or.ensures.value c.in_ok-mask.was in
-    let finds =
-    open_finds c.args.me c.args.bytes.now c.line_end-end.ensures head mask c.fresh-start.ensures _ _
-    c.replay_all.new.terms c.replay_all.new.orders (Err c.in_err-found.field-0.0) c.in_err-found.ensures in
-    let is = given.1 ∙ ap Err given.2 in
-    rw is (opens-broken c.args.me c.args.bytes.now c.args.terms.now c.args.orders.now c.replay_all.new.terms c.replay_all.new.orders c.in_err-found.field-0.0 finds)
+    let few = block_few c.args.me c.args.bytes.now c.line_end-head.ensures head mask c.fresh-start.ensures c.replay_lines-behind.ensures in
+    omega (arith, few, c.well_formed)
+
+pub returns-in_default : goal.returns-in_default
+returns-in_default c =
+    let (head, mask) = mask-some c.args.me _ _ c.head_mask.ensures c.ok_or.ensures.value c.in_ok-mask.was in
+    let broken = block_breaks c.args.me c.args.bytes.now c.line_end-head.ensures head mask c.fresh-start.ensures c.replay_lines-behind.ensures in
+    opens-broken c.args.me c.args.bytes.now c.args.terms.now c.args.orders.now _ (broken _ c.in_default.is)
 
 pub slice_bounds-copy_from_slice-end : goal.slice_bounds-copy_from_slice-end
 slice_bounds-copy_from_slice-end c =
     let (head, mask) = mask-some c.args.me _ _ c.head_mask.ensures c.ok_or.ensures.value c.in_ok-mask.was in
-    let finds =
-    open_finds c.args.me c.args.bytes.now c.line_end-end.ensures head mask c.fresh-start.ensures _ _
-    c.replay_all.new.terms c.replay_all.new.orders (Ok c.in_ok-found.found) c.in_ok-found.ensures in
-    let fits = found-room c.args.me c.args.bytes.now c.args.terms.now c.args.orders.now c.replay_all.new.terms c.replay_all.new.orders c.in_ok-found.found finds in
+    let fits = block-room c.args.me c.args.bytes.now c.line_end-head.ensures head mask c.fresh-start.ensures c.replay_lines-behind.ensures in
     omega (arith, fits)
 
 pub returns : goal.returns
 returns c =
+    let made = c.replay_lines-behind in
     let (head, mask) = mask-some c.args.me _ _ c.head_mask.ensures c.ok_or.ensures.value c.in_ok-mask.was in
-    let finds =
-    open_finds c.args.me c.args.bytes.now c.line_end-end.ensures head mask c.fresh-start.ensures _ _
-    c.replay_all.new.terms c.replay_all.new.orders (Ok c.in_ok-found.found) c.in_ok-found.ensures in
-    let found = opens-found c.args.me c.args.bytes.now c.args.terms.now c.args.orders.now c.replay_all.new.terms c.replay_all.new.orders c.in_ok-found.found finds in
-    let fits : c.in_ok-found.found.state.last ≤ log_limit =
-    found-room c.args.me c.args.bytes.now c.args.terms.now c.args.orders.now c.replay_all.new.terms c.replay_all.new.orders c.in_ok-found.found finds in
-    let terms = handed_over c.args.terms.now c.replay_all.new.terms _ c.copy_from_slice.ensures.after (omega (arith, fits)) in
-    let orders = handed_over c.args.orders.now c.replay_all.new.orders _ c.copy_from_slice-2.ensures.after (omega (arith, fits)) in
-    found (search rules) (search rules) terms orders
+    let fits : made.result.state.last ≤ log_limit =
+    block-room c.args.me c.args.bytes.now c.line_end-head.ensures head mask c.fresh-start.ensures made.ensures in
+    let opens = block_opens c.args.me c.args.bytes.now c.line_end-head.ensures head mask c.fresh-start.ensures made.ensures c.in-Ok.is in
+    let in_terms : made.result.state.last ≤ length made.new.terms = omega (arith, fits) in
+    let in_orders : made.result.state.last ≤ length made.new.orders = omega (arith, fits) in
+    let terms = handed_over c.args.terms.now made.new.terms _ c.copy_from_slice.ensures.after in_terms in
+    let orders = handed_over c.args.orders.now made.new.orders _ c.copy_from_slice-2.ensures.after in_orders in
+    opens-found c.args.me c.args.bytes.now c.args.terms.now c.args.orders.now made.result.state made.new.terms made.new.orders _ opens
+    in_terms in_orders terms orders

@@ -4,7 +4,7 @@ use mathlib.Core.Path.{sym, ◌∙◌}
 use Rattle.journal.specs.Lines.{count_in}
 use Rattle.opening.specs.CodeLaws.{shaped-run, allowed-numbers}
 use Rattle.opening.specs.ReplayCode.{replay_unshaped, replay-refused, replay_many, replay-next}
-use Rattle.opening.proofs.whole.replay_line.Goals as goal
+use Rattle.opening.proofs.blocks.replay.Goals as goal
 
 pub returns-then-not-is_shaped : goal.returns-then-not-is_shaped
 returns-then-not-is_shaped c =
@@ -38,8 +38,8 @@ store-requires c =
     let holds = sym (c.is_allowed.ensures c.args.orders.now) ∙ c.if-not-is_allowed.false in
     let fits = allowed-numbers c.args.n _ c.args.terms.now c.args.orders.now holds in
     record {
-      in_terms = omega (arith, fits.room, c.requires.terms_long);
-      in_orders = omega (arith, fits.room, c.requires.orders_long);
+      in_terms = omega (arith, fits.room, c.told-terms);
+      in_orders = omega (arith, fits.room, c.told-orders);
     }
 
 pub after-requires : goal.after-requires
@@ -51,5 +51,5 @@ pub returns : goal.returns
 returns c =
     let shaped = sym c.is_shaped.ensures ∙ c.if-not-is_shaped.false in
     let holds = sym (c.is_allowed.ensures c.args.orders.now) ∙ c.if-not-is_allowed.false in
-    let next = replay-next c.args.n c.args.line.now c.args.terms.now c.args.orders.now _ shaped c.line_fields-l.ensures.result_value holds c.requires in
+    let next = replay-next c.args.n c.args.line.now c.args.terms.now c.args.orders.now _ shaped c.line_fields-l.ensures.result_value holds c.told-terms c.told-orders in
     next c.after.ensures (omega arith) c.store.ensures.terms_after c.store.ensures.orders_after

@@ -1,7 +1,7 @@
 -- The line's fields are put into the record, which then follows.
 use Rattle.raft.specs.Append.{following}
 use Rattle.journal.specs.Opening.{restarted}
-use Rattle.opening.proofs.whole.after.Goals as goal
+use Rattle.opening.proofs.blocks.after.Goals as goal
 
 pub returns : goal.returns
 unfolding following restarted
