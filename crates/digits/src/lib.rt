@@ -8,7 +8,7 @@
 
 mod tables;
 
-ghost use Rattle.std.specs.Prelude.{◌≡◌, true, ◌+◌, ◌≤◌, ◌<◌, length};
+ghost use Rattle.std.specs.Prelude.{◌≡◌, true, ℕ, ◌+◌, ◌*◌, ◌≤◌, length};
 ghost use Rattle.digits.specs.Digits.{is_digit, all_digits, worth, field, spelt, run};
 ghost use Rattle.digits.specs.Room.{over, Lent};
 
@@ -23,14 +23,13 @@ fn is_digit(c: u8) -> bool
 }
 
 // Nothing but digits. It looks at every character, with no way out early: so the compiler makes it some 16 at a time.
+#[tactic(auto, using(crate::specs::Laws::all_digits_more), unfolding(crate::specs::Digits::all_digits))]
 pub fn all_digits(s: &[u8]) -> bool
     ensures { result ≡ all_digits s.now }
 {
     let mut ok = true;
-    let mut i = 0;
-    while i < s.len() {
-        ok = ok & is_digit(s[i]);
-        i += 1;
+    for c in s {
+        ok = ok & is_digit(*c);
     }
     ok
 }
@@ -43,112 +42,162 @@ fn worth(c: u8) -> u8
     c % 16 + c / 64 * 9
 }
 
-// The field of one byte that starts at a place among the digits that a text begins with.
+// A number of so many bytes that stands in a text as a field. A byte is two digits, and each wider number is two of half
+// its width. (Its halves are had by division: `to_be_bytes` gives single bytes, and there a loop would put them together.)
+pub trait Field {
+    ghost width: { ℕ };
+
+    ghost value: { Self → ℕ };
+
+    // The field that starts at a place among the digits that a text begins with.
+    fn get(s: &[u8], at: usize) -> Self
+        requires { at + 2 * width ≤ run s.now }
+        ensures { value result ≡ field s.now at width };
+
+    // Writes the digits, from the table lent, at a place of the room.
+    fn spell(self, table: &[u8; 16], room: &mut [u8], at: usize)
+        requires { Lent width table.now room.old at }
+        ensures { room.new ≡ over room.old at (spelt width (value self)) };
+}
+
+impl Field for u8 {
+    ghost width = { 1 };
+
+    ghost value = { λ n. n };
+
+    fn get(s: &[u8], at: usize) -> u8 {
+        let high = worth(s[at]);
+        let low = worth(s[at + 1]);
+        high * 16 + low
+    }
+
+    fn spell(self, table: &[u8; 16], room: &mut [u8], at: usize) {
+        room[at] = table[(self / 16) as usize];
+        room[at + 1] = table[(self % 16) as usize];
+    }
+}
+
+impl Field for u16 {
+    ghost width = { 2 };
+
+    ghost value = { λ n. n };
+
+    fn get(s: &[u8], at: usize) -> u16 {
+        let high = u8::get(s, at);
+        let low = u8::get(s, at + 2);
+        high as u16 * 256 + low as u16
+    }
+
+    fn spell(self, table: &[u8; 16], room: &mut [u8], at: usize) {
+        ((self / 256) as u8).spell(table, room, at);
+        ((self % 256) as u8).spell(table, room, at + 2);
+    }
+}
+
+impl Field for u32 {
+    ghost width = { 4 };
+
+    ghost value = { λ n. n };
+
+    fn get(s: &[u8], at: usize) -> u32 {
+        let high = u16::get(s, at);
+        let low = u16::get(s, at + 4);
+        high as u32 * 65536 + low as u32
+    }
+
+    fn spell(self, table: &[u8; 16], room: &mut [u8], at: usize) {
+        ((self / 65536) as u16).spell(table, room, at);
+        ((self % 65536) as u16).spell(table, room, at + 4);
+    }
+}
+
+impl Field for u64 {
+    ghost width = { 8 };
+
+    ghost value = { λ n. n };
+
+    fn get(s: &[u8], at: usize) -> u64 {
+        let high = u32::get(s, at);
+        let low = u32::get(s, at + 8);
+        high as u64 * 4294967296 + low as u64
+    }
+
+    fn spell(self, table: &[u8; 16], room: &mut [u8], at: usize) {
+        ((self / 4294967296) as u32).spell(table, room, at);
+        ((self % 4294967296) as u32).spell(table, room, at + 8);
+    }
+}
+
+// Reads a field, of the width that the caller's type has.
+pub fn get<F: Field>(s: &[u8], at: usize) -> F
+    requires { at + 2 * F.width ≤ run s.now }
+    ensures { F.value result ≡ field s.now at F.width }
+{
+    F::get(s, at)
+}
+
+// Writes a field at a place of the room.
+pub fn put<F: Field>(room: &mut [u8], at: usize, n: F)
+    requires { at + 2 * F.width ≤ length room.old }
+    ensures { room.new ≡ over room.old at (spelt F.width (F.value n)) }
+{
+    let table = DIGITS;
+    n.spell(&table, room, at);
+}
+
+// (The old names, until every caller has the new.)
 pub fn get_u8(s: &[u8], at: usize) -> u8
     requires { at + 2 ≤ run s.now }
     ensures { result ≡ field s.now at 1 }
 {
-    let high = worth(s[at]);
-    let low = worth(s[at + 1]);
-    high * 16 + low
+    get(s, at)
 }
 
-// The field of two bytes.
 pub fn get_u16(s: &[u8], at: usize) -> u16
     requires { at + 4 ≤ run s.now }
     ensures { result ≡ field s.now at 2 }
 {
-    let high = get_u8(s, at);
-    let low = get_u8(s, at + 2);
-    high as u16 * 256 + low as u16
+    get(s, at)
 }
 
-// The field of four bytes.
 pub fn get_u32(s: &[u8], at: usize) -> u32
     requires { at + 8 ≤ run s.now }
     ensures { result ≡ field s.now at 4 }
 {
-    let high = get_u16(s, at);
-    let low = get_u16(s, at + 4);
-    high as u32 * 65536 + low as u32
+    get(s, at)
 }
 
-// The field of eight bytes.
 pub fn get_u64(s: &[u8], at: usize) -> u64
     requires { at + 16 ≤ run s.now }
     ensures { result ≡ field s.now at 8 }
 {
-    let high = get_u32(s, at);
-    let low = get_u32(s, at + 8);
-    high as u64 * 4294967296 + low as u64
+    get(s, at)
 }
 
-// Writes one byte's two digits, from the table lent, at a place of the room.
-fn spell_u8(table: &[u8; 16], room: &mut [u8], at: usize, n: u8)
-    requires { Lent 1 table.now room.old at }
-    ensures { room.new ≡ over room.old at (spelt 1 n) }
-{
-    room[at] = table[(n / 16) as usize];
-    room[at + 1] = table[(n % 16) as usize];
-}
-
-// Writes two bytes, the high one first; and so on, each width by the one below it.
-fn spell_u16(table: &[u8; 16], room: &mut [u8], at: usize, n: u16)
-    requires { Lent 2 table.now room.old at }
-    ensures { room.new ≡ over room.old at (spelt 2 n) }
-{
-    spell_u8(table, room, at, (n / 256) as u8);
-    spell_u8(table, room, at + 2, (n % 256) as u8);
-}
-
-fn spell_u32(table: &[u8; 16], room: &mut [u8], at: usize, n: u32)
-    requires { Lent 4 table.now room.old at }
-    ensures { room.new ≡ over room.old at (spelt 4 n) }
-{
-    spell_u16(table, room, at, (n / 65536) as u16);
-    spell_u16(table, room, at + 4, (n % 65536) as u16);
-}
-
-fn spell_u64(table: &[u8; 16], room: &mut [u8], at: usize, n: u64)
-    requires { Lent 8 table.now room.old at }
-    ensures { room.new ≡ over room.old at (spelt 8 n) }
-{
-    spell_u32(table, room, at, (n / 4294967296) as u32);
-    spell_u32(table, room, at + 8, (n % 4294967296) as u32);
-}
-
-// Writes a field of one byte at a place of the room.
 pub fn put_u8(room: &mut [u8], at: usize, n: u8)
     requires { at + 2 ≤ length room.old }
     ensures { room.new ≡ over room.old at (spelt 1 n) }
 {
-    let table = DIGITS;
-    spell_u8(&table, room, at, n);
+    put(room, at, n);
 }
 
-// Writes a field of two bytes.
 pub fn put_u16(room: &mut [u8], at: usize, n: u16)
     requires { at + 4 ≤ length room.old }
     ensures { room.new ≡ over room.old at (spelt 2 n) }
 {
-    let table = DIGITS;
-    spell_u16(&table, room, at, n);
+    put(room, at, n);
 }
 
-// Writes a field of four bytes.
 pub fn put_u32(room: &mut [u8], at: usize, n: u32)
     requires { at + 8 ≤ length room.old }
     ensures { room.new ≡ over room.old at (spelt 4 n) }
 {
-    let table = DIGITS;
-    spell_u32(&table, room, at, n);
+    put(room, at, n);
 }
 
-// Writes a field of eight bytes.
 pub fn put_u64(room: &mut [u8], at: usize, n: u64)
     requires { at + 16 ≤ length room.old }
     ensures { room.new ≡ over room.old at (spelt 8 n) }
 {
-    let table = DIGITS;
-    spell_u64(&table, room, at, n);
+    put(room, at, n);
 }

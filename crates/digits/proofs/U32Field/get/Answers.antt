@@ -2,7 +2,7 @@
 use native.Mathlib.Omega.{arith}
 use mathlib.Core.Path.{sym}
 use Rattle.digits.specs.Laws.{field_halves, run-le}
-use Rattle.digits.proofs.get_u64.Goals as goal
+use Rattle.digits.proofs.U32Field.get.Goals as goal
 
 pub overflow_add-at : goal.overflow_add-at
 overflow_add-at c =
@@ -10,4 +10,4 @@ overflow_add-at c =
 
 pub returns : goal.returns
 returns c =
-    rw (c.get_u32-high.ensures, c.get_u32-low.ensures) (sym (field_halves c.args.s.now c.args.at 4 (omega (arith, run-le c.args.s.now))))
+    rw (c.get-high.ensures, c.get-low.ensures) (sym (field_halves c.args.s.now c.args.at 2 (omega (arith, run-le c.args.s.now))))

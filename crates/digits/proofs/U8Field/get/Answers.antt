@@ -4,7 +4,7 @@ use Prim.Native.Nat.{ℕ, ◌+◌, ◌<◌}
 use mathlib.Core.Path.{◌≡◌, sym}
 use Rattle.digits.specs.Digits.{worth}
 use Rattle.digits.specs.Laws.{worth-lt, field_byte, run-le, run_at}
-use Rattle.digits.proofs.get_u8.Goals as goal
+use Rattle.digits.proofs.U8Field.get.Goals as goal
 
 -- what a digit character is worth is less than 16
 worth_small : (w c : ℕ) → w ≡ worth c → w < 16

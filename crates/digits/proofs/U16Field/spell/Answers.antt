@@ -1,9 +1,9 @@
 -- Two halves are the whole, by the one law over the width.
 use native.Mathlib.Omega.{arith}
 use Rattle.digits.specs.RoomLaws.{stored_halves}
-use Rattle.digits.proofs.spell_u16.Goals as goal
+use Rattle.digits.proofs.U16Field.spell.Goals as goal
 
 pub returns : goal.returns
 returns c =
-    stored_halves 1 c.args.room.now c.args.at c.args.n (omega arith)
-    c.spell_u8.ensures c.spell_u8-2.ensures
+    stored_halves 1 c.args.room.now c.args.at c.args.self (omega arith)
+    c.spell.ensures c.spell-2.ensures
