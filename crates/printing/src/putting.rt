@@ -16,7 +16,7 @@ pub fn put(room: &mut [u8], at: usize, text: &[u8])
     room[at..at + text.len()].copy_from_slice(text);
 }
 
-// Puts a number in decimal at a place; answers the place behind it.
+// Puts a number in decimal at a place; answers the place behind it. (`write!` promises no text to a slice; `itoa` promises its own, which lies on the stack.)
 pub fn put_decimal(room: &mut [u8], at: usize, n: u64) -> usize
     requires { at + 20 ≤ length room.old }
     ensures puts { Puts room.old at (decimal n) result room.new }
