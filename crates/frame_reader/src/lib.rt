@@ -21,7 +21,7 @@ pub fn is_line(s: &[u8]) -> bool
     }
 }
 
-// A line that has version 01 and one of the four kinds.
+// A line that has version 01 and one of the four kinds. (In these three the kind is the byte that stands there, so any number.)
 #[tactic(auto, unfolding(frames::specs::Reading::is_headed, frames::specs::Reading::version))]
 fn is_headed(s: &[u8], kind: u8) -> bool
     requires { LineOf s.now kind }
@@ -163,17 +163,17 @@ fn append(s: &[u8]) -> Fields
     }
 }
 
-// The fields of the kind.
+// The fields of the kind. (Each arm returns by itself: where they meet in one value it is taken apart and put together again, 3 ns more.)
 #[tactic(auto, unfolding(frames::specs::Reading::message_in, frames::specs::Reading::kind, frames::specs::Message::by_kind))]
 fn fields(s: &[u8]) -> Fields
     requires { reading.readable s.now ≡ true }
     ensures { result ≡ fields_of (reading.message_in s.now) }
 {
     match digits::get::<u8>(s, 2) {
-        Fields::VOTE_REQUEST => vote_request(s),
-        Fields::VOTE_ANSWER => vote_answer(s),
-        Fields::APPEND => append(s),
-        _ => append_answer(s),
+        Fields::VOTE_REQUEST => return vote_request(s),
+        Fields::VOTE_ANSWER => return vote_answer(s),
+        Fields::APPEND => return append(s),
+        _ => return append_answer(s),
     }
 }
 
@@ -185,9 +185,8 @@ pub fn read(s: &[u8]) -> Result<Fields, Refusal>
         return Err(Refusal::NotAFrame);
     }
     let fields = fields(s);
-    if obeys(fields) {
-        Ok(fields)
-    } else {
-        Err(Refusal::NotAFrame)
+    if !obeys(fields) {
+        return Err(Refusal::NotAFrame);
     }
+    Ok(fields)
 }

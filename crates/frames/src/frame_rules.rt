@@ -82,19 +82,21 @@ fn is_vote_answer(f: Fields) -> bool
     is_start(f.from, f.to, f.term) & is_reply(f.reply)
 }
 
-// "Kind 3: count at most 4, previous index + count at most 256", and the entry rule.
+// "Kind 3: count at most 4, previous index + count at most 256", and the entry rule. (The entries copied by themselves: a part of the
+// struct in their place is copied together with the count before them, and has to wait for its store.)
 fn is_append(f: Fields) -> bool
     requires { f.count ≤ entry_limit }
     ensures { result ≡ obeys (append f.from f.to f.term f.index f.prior f.commit (listed f.entries 0 f.count)) }
 {
     let count = f.count;
+    let entries = f.entries;
     is_start(f.from, f.to, f.term)
         & is_index(f.index)
         & is_pair(f.index, f.prior)
         & is_index(f.commit)
         & (count as usize <= Fields::ENTRIES)
         & (f.index as u32 + count as u32 <= Fields::LOG as u32)
-        & in_order(&f.entries[..count as usize], f.prior, f.term)
+        & in_order(&entries[..count as usize], f.prior, f.term)
 }
 
 // "Kind 4: a no names index 0."

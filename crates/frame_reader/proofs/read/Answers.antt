@@ -13,11 +13,11 @@ pub obeys-requires : goal.obeys-requires
 obeys-requires c =
     read-few c.args.s.now c.fields-fields.result (sym c.if-not-is_readable.ensures) c.fields-fields.ensures
 
-pub returns-then-obeys : goal.returns-then-obeys
-returns-then-obeys c =
-    read-frame c.args.s.now c.fields-fields.result (sym c.if-not-is_readable.ensures) c.fields-fields.ensures (sym c.if-obeys.ensures)
+pub returns : goal.returns
+returns c =
+    read-frame c.args.s.now c.fields-fields.result (sym c.if-not-is_readable.ensures) c.fields-fields.ensures (sym c.if-not-obeys.ensures)
 
-pub returns-else-obeys : goal.returns-else-obeys
+pub returns-then-not-obeys : goal.returns-then-not-obeys
 unfolding answer
-returns-else-obeys c =
-    rw (read_disobeys c.args.s.now c.fields-fields.result (sym c.if-not-is_readable.ensures) c.fields-fields.ensures (sym c.if-obeys.ensures))
+returns-then-not-obeys c =
+    rw (read_disobeys c.args.s.now c.fields-fields.result (sym c.if-not-is_readable.ensures) c.fields-fields.ensures (sym c.if-not-obeys.ensures))
