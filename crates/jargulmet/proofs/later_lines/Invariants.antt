@@ -11,9 +11,6 @@ pub record Held (input₀ output₀ input output : List ℕ) (at held : ℕ) : T
   pub long : length input ≡ length input₀
   pub same : length output ≡ length output₀
 
-abbrev pub invariant-loop-turns : goal.invariant-loop-turns
-invariant-loop-turns g l =
+abbrev pub invariant-loop : goal.invariant-loop
+invariant-loop g l =
     Held l.initial.input l.initial.output l.input l.output l.at l.held
-
-abbrev pub decreases-loop-turns : goal.decreases-loop-turns
-decreases-loop-turns g l = l.turns
