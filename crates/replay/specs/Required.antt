@@ -4,11 +4,6 @@ use Rattle.frames.specs.Limits.{log_limit}
 use Rattle.printing.specs.Putting.{shown_most}
 use Rattle.record.specs.declared.Record.{Record}
 
--- A block that holds so many bytes, and room for the text of any record.
-pub record Lent (input : List ℕ) (filled : ℕ) (output : List ℕ) : Type 0 where
-  pub held : filled ≤ length input
-  pub room : shown_most ≤ length output
-
 -- A block that holds so many bytes, and a record whose log is no longer than a log can be.
 pub record Continues (b : Record) (input : List ℕ) (filled : ℕ) : Type 0 where
   pub held : filled ≤ length input

@@ -1,144 +1,115 @@
 // A look into a journal: the first line asks for a box, the rest is its journal. It reads, has the lines replayed by the library, and prints.
 #![tactic(auto)]
 
-ghost use Rattle.std.specs.Prelude.{◌≡◌, ◌≤◌, length};
+ghost use Rattle.std.specs.Prelude.{◌≤◌, length, IfOk};
 ghost use Rattle.frames.specs.Limits.{log_limit};
 ghost use Rattle.printing.specs.Putting.{shown_most};
-ghost use Rattle.replay.specs.Required.{Lent, Continues, Showable};
+ghost use Rattle.replay.specs.Required.{Continues, Showable};
 
+use opening::{Opened, Unopened};
+use reader::Line;
 use record::Record;
+use std::io;
 use std::io::{Read, Write};
 
-// What the lines behind the head came to: 0, or 10 and how many were good before; the record, and their bytes.
-#[derive(Drop)]
-struct Ended {
-    refusal: u8,
-    state: Record,
-    bytes: u64,
-    lines: u64,
-}
-
-// What cannot be written is passed over: nothing is read or written behind it.
-fn put<W: Write>(stdout: &mut W, text: &[u8]) {
-    let _ = stdout.write_all(text);
-}
-
-fn no_head<W: Write>(stdout: &mut W) {
-    put(stdout, b"n11\n");
-}
-
-// The head is line 1, and those that were good stand between it and this one.
-fn bad_line<W: Write>(stdout: &mut W, good: u64) {
-    let line = good.wrapping_add(2);
-    let _ = writeln!(stdout, "n10 {line}");
-}
-
-// The lines behind the head: those in the block already, then what is read.
+// The lines behind the head: those in the block already, then what is read. "the first such line's number, the head being 1"
 fn later_lines<R: Read>(
     stdin: &mut R,
     n: Record,
     input: &mut [u8],
-    filled: usize,
+    head: Line,
     terms: &mut [u32; Record::LOG],
     orders: &mut [u64; Record::LOG],
-) -> Ended
-    requires { Continues n input.old filled }
-    ensures { result.state.last ≤ log_limit }
+) -> Result<Opened, Unopened>
+    requires end_le_held { head.end ≤ head.held }
+    requires continues { Continues n input.old head.held }
+    ensures { IfOk result (λ opened. opened.state.last ≤ log_limit) }
 {
     let mut state = n;
-    let mut held = filled;
-    let mut bytes: u64 = 0;
-    let mut lines: u64 = 0;
-    let mut turns = u64::MAX;
-    while turns > 0 {
-        let block = opening::replay_lines(state, &input[..held], terms, orders);
+    let mut at = head.end;
+    let mut held = head.held;
+    let mut bytes = head.end;
+    let mut line: usize = 2;
+    for _ in 0..u64::MAX {
+        let block = opening::replay_lines(state, &input[at..held], terms, orders);
         state = block.state;
-        bytes = bytes.wrapping_add(block.bytes as u64);
-        lines = lines.wrapping_add(block.lines as u64);
-        if block.refusal != 0 {
-            return Ended {
-                refusal: 10,
-                state,
-                bytes,
-                lines,
-            };
-        }
-        let left = reader::keep(input, block.bytes, held);
-        let kept = reader::shorten(&input[..], left);
+        bytes = bytes.wrapping_add(block.bytes);
+        line = line.wrapping_add(block.lines);
+        let Ok(()) = block.end else {
+            return Err(Unopened::BadLine { line });
+        };
+        let left = reader::keep(input, at + block.bytes, held);
+        let kept = reader::shorten(input, left);
         held = reader::more(stdin, input, kept);
         if held == kept {
             break;
         }
-        turns -= 1;
+        at = 0;
     }
-    Ended {
-        refusal: 0,
-        state,
-        bytes,
-        lines,
+    Ok(Opened { state, bytes })
+}
+
+// The journal of the box that the first line asks for.
+fn open<R: Read>(
+    stdin: &mut R,
+    input: &mut [u8],
+    terms: &mut [u32; Record::LOG],
+    orders: &mut [u64; Record::LOG],
+) -> Result<Opened, Unopened>
+    ensures { IfOk result (λ opened. opened.state.last ≤ log_limit) }
+{
+    let first = reader::whole_line(stdin, input, 0).ok_or(Unopened::NoHead)?;
+    let me = printing::asked(&input[..first.end]).ok_or(Unopened::NoHead)?;
+    let left = reader::keep(input, first.end, first.held);
+    let head = reader::whole_line(stdin, input, left).ok_or(Unopened::NoHead)?;
+    let Ok(state) = opening::replay_head(me, &input[..head.end]) else {
+        return Err(Unopened::NoHead);
+    };
+    later_lines(stdin, state, input, head, terms, orders)
+}
+
+// Prints why there is no record.
+fn refuse<W: Write>(stdout: &mut W, why: Unopened) -> io::Result<()> {
+    match why {
+        Unopened::NoHead => stdout.write_all(b"n11\n"),
+        Unopened::BadLine { line } => writeln!(stdout, "n10 {line}"),
     }
 }
 
-// Prints the record, the head's nine bytes counted.
+// Prints the record.
 fn show<W: Write>(
     stdout: &mut W,
-    n: Record,
-    bytes: u64,
+    opened: Opened,
     terms: &[u32; Record::LOG],
     orders: &[u64; Record::LOG],
     output: &mut [u8],
-)
-    requires { Showable n output.old }
+) -> io::Result<()>
+    requires { Showable opened.state output.old }
 {
-    let text = printing::show(n, bytes.wrapping_add(9), terms, orders, output);
-    put(stdout, &output[..text]);
+    let state = opened.state;
+    let text = printing::show(state, opened.bytes as u64, terms, orders, output);
+    stdout.write_all(&output[..text])
 }
 
-// The journal behind the first line.
-fn open<R: Read, W: Write>(
+fn run<R: Read, W: Write>(
     stdin: &mut R,
     stdout: &mut W,
-    me: u8,
     input: &mut [u8],
-    filled: usize,
     output: &mut [u8],
-)
-    requires { Lent input.old filled output.old }
-{
-    let head = reader::whole_line(stdin, input, filled);
-    let opened = opening::replay_head(me, &input[..head.end]);
-    let state = opened.state;
-    if opened.refusal != 0 {
-        no_head(stdout);
-        return;
-    }
-    let left = reader::keep(input, head.end, head.held);
-    let mut terms = [0u32; Record::LOG];
-    let mut orders = [0u64; Record::LOG];
-    let ended = later_lines(stdin, state, input, left, &mut terms, &mut orders);
-    let last = ended.state;
-    if ended.refusal != 0 {
-        bad_line(stdout, ended.lines);
-        return;
-    }
-    show(stdout, last, ended.bytes, &terms, &orders, output);
-}
-
-fn run<R: Read, W: Write>(stdin: &mut R, stdout: &mut W, input: &mut [u8], output: &mut [u8])
+) -> io::Result<()>
     requires { shown_most ≤ length output.old }
 {
-    let first = reader::whole_line(stdin, input, 0);
-    let me = printing::asked(&input[..first.end]);
-    if me == 0 {
-        no_head(stdout);
-        return;
+    let mut terms = [0u32; Record::LOG];
+    let mut orders = [0u64; Record::LOG];
+    match open(stdin, input, &mut terms, &mut orders) {
+        Ok(opened) => show(stdout, opened, &terms, &orders, output),
+        Err(why) => refuse(stdout, why),
     }
-    let left = reader::keep(input, first.end, first.held);
-    open(stdin, stdout, me, input, left, output);
 }
 
+// What cannot be written is passed over: nothing is read or written behind it.
 fn main(rt: HostRuntime) {
     let mut input = [0u8; 65536];
     let mut output = [0u8; 65536];
-    run(&mut rt.stdin(), &mut rt.stdout(), &mut input, &mut output);
+    let _ = run(&mut rt.stdin(), &mut rt.stdout(), &mut input, &mut output);
 }

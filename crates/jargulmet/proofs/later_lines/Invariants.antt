@@ -5,15 +5,10 @@ use mathlib.Core.List.{List}
 use lib.ListN.{length}
 use Rattle.jargulmet.proofs.later_lines.Given as goal
 
-pub record Held (input₀ output₀ input output : List ℕ) (at held : ℕ) : Type 0 where
+pub record Held (input₀ input : List ℕ) (at held : ℕ) : Type 0 where
   pub before : at ≤ held
   pub within : held ≤ length input
   pub long : length input ≡ length input₀
-  pub same : length output ≡ length output₀
 
-abbrev pub invariant-loop-turns : goal.invariant-loop-turns
-invariant-loop-turns g l =
-    Held l.initial.input l.initial.output l.input l.output l.at l.held
-
-abbrev pub decreases-loop-turns : goal.decreases-loop-turns
-decreases-loop-turns g l = l.turns
+abbrev pub invariant-loop : goal.invariant-loop
+invariant-loop g l = Held l.initial.input l.input l.at l.held
