@@ -2,34 +2,31 @@
 use Rattle.std.specs.Prelude.{ℕ, ◌+◌, ◌*◌, ◌≡◌, refl, Bool, true, false, not, List, leb, length}
 use native.Mathlib.Omega.{arith}
 use Rattle.std.proofs.Common.{sym, ap, ◌∙◌}
-use borrow.Author.Tests.{ne_eqb, not-true, not-false}
+use borrow.Author.Tests.{ne_eqb}
 use Rattle.record.specs.declared.Record.{Record}
-use Rattle.record.specs.declared.Handed.{Handed}
-use Rattle.node.specs.declared.Started.{Started}
-use Rattle.node.specs.declared.Answer.{Answer}
-use Rattle.node.specs.Outside.{Starts, Calls}
+use Rattle.node.specs.Outside.{Answer, Started, Starts, Calls}
 use Rattle.raft.specs.Record.{is_membership}
 use Rattle.raft.specs.Journal.{head}
 use Rattle.raft.specs.Event.{Event}
-use Rattle.record.specs.Calls.{Begun, begun, handed}
+use Rattle.record.specs.Calls.{Begun, begun, HandedTold, handed}
 use Rattle.record.specs.WrittenLaws.{head-long}
 use Rattle.flat.specs.Box.{box_range, box_in, box_flat}
 use Rattle.abi.specs.Boxes.{Stores, Steps, box_event, Begins, box_begun, Hands, box_handed}
 
 -- ---- an event
 
-module _ (e : Event) (n terms orders journal room sizes : List ℕ) {fits : Bool} (t : fits ≡ box_range n) where
+module _ (e : Event) (n terms orders journal room sizes : List ℕ) where
   -- numbers that do not fit are no record
-  pub event-none : not fits ≡ true → Steps e n terms orders journal room sizes 12 n terms orders journal room sizes
+  pub event-none : box_range n ≡ false → Steps e n terms orders journal room sizes 12 n terms orders journal room sizes
   unfolding box_event
-  event-none h = rw (sym t ∙ not-true fits h)
+  event-none h = rw h
 
   -- the box's answer, stored
-  pub event-step : {r : ℕ} {n' terms' orders' journal' room' sizes' : List ℕ} → not fits ≡ false → (b : Record) (a : Answer) → b ≡ box_in n
+  pub event-step : {r : ℕ} {n' terms' orders' journal' room' sizes' : List ℕ} → box_range n ≡ true → (b : Record) (a : Answer) → b ≡ box_in n
       → Calls e (record { state = b }) terms orders journal room a terms' orders' journal' room' → Stores a n sizes r n' sizes'
       → Steps e n terms orders journal room sizes r n' terms' orders' journal' room' sizes'
   unfolding box_event
-  event-step h b a i c s = rw (sym t ∙ not-false fits h, ← i, ← c, s.number, s.numbers, s.lengths)
+  event-step h b a i c s = rw (h, ← i, ← c, s.number, s.numbers, s.lengths)
 
 -- ---- a start
 
@@ -76,16 +73,16 @@ module _ (me mask : ℕ) (n room : List ℕ) (s : Started) {room' : List ℕ} (e
 
 -- ---- what is handed out
 
-module _ (n terms orders : List ℕ) (count : ℕ) {fits : Bool} (t : fits ≡ box_range n) where
-  pub handed-none : not fits ≡ true → Hands n terms orders count 12 count
+module _ (n terms orders : List ℕ) (count : ℕ) where
+  pub handed-none : box_range n ≡ false → Hands n terms orders count 12 count
   unfolding box_handed
-  handed-none h = rw (sym t ∙ not-true fits h)
+  handed-none h = rw h
 
-  module _ (h : not fits ≡ false) (b : Record) (i : b ≡ box_in n) (x : Handed) (e : x ≡ handed b terms orders) where
+  module _ (h : box_range n ≡ true) (b : Record) (i : b ≡ box_in n) (x : HandedTold) (e : x ≡ handed b terms orders) where
     pub handed-done : x.refusal ≡ 0 → Hands n terms orders count 0 x.count
     unfolding box_handed
-    handed-done z = rw (sym t ∙ not-false fits h, ← i, ← e, z)
+    handed-done z = rw (h, ← i, ← e, z)
 
     pub handed-refused : (x.refusal ≡ 0 → ⊥) → Hands n terms orders count x.refusal count
     unfolding box_handed
-    handed-refused z = rw (sym t ∙ not-false fits h, ← i, ← e, ne_eqb _ _ z)
+    handed-refused z = rw (h, ← i, ← e, ne_eqb _ _ z)

@@ -1,6 +1,6 @@
 -- The box's calls, for callers in C and Rust. Assumes nothing.
 use Rattle.std.specs.Prelude.{ℕ, ◌+◌, ◌*◌, ◌≡◌, cond, List, eqb, set}
-use Rattle.node.specs.declared.Answer.{Answer}
+use Rattle.node.specs.Outside.{Answer}
 use Rattle.raft.specs.Event.{Event}
 use Rattle.record.specs.Calls.{Called, call, begun, handed}
 use Rattle.flat.specs.Box.{box_range, box_in, box_flat}

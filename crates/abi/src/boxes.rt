@@ -1,26 +1,28 @@
 // A box for C and Rust.
-ghost use Rattle.std.specs.Prelude.{◌≡◌};
 ghost use Rattle.raft.specs.Event.{times_out, takes_order, is_prompted, receives};
+ghost use Rattle.node.specs.declared.Node.{Node};
+ghost use Rattle.node.specs.Outside.{told};
 ghost use Rattle.abi.specs.Boxes.{Stores, Steps, Begins, Hands};
 
-use flat::{box_in, box_range, put_box};
-use node::{Answer, Node};
-use record::Record;
+use flat::{box_in, put_box};
+use frames::Refusal;
+use node::Node;
+use record::{Record, Step};
 
 // The answer's number; where it is 0, the next box's numbers and the sizes are stored.
-fn put_answer(n: &mut [u64; 22], sizes: &mut [u64; 2], a: Answer) -> u8
-    ensures { Stores a n.old sizes.old result n.new sizes.new }
+fn put_answer(n: &mut [u64; 22], sizes: &mut [u64; 2], a: Result<Step<Node>, Refusal>) -> u8
+    ensures { (b : Node) → Stores (told b a) n.old sizes.old result n.new sizes.new }
 {
-    let refusal = a.refusal;
-    if refusal == 0 {
-        let b = a.node;
-        let state = b.state;
-        put_box(n, state);
-        sizes[0] = a.line as u64;
-        sizes[1] = a.sent as u64;
-        return 0;
+    match a {
+        Ok(done) => {
+            let next = done.next;
+            put_box(n, next.state);
+            sizes[0] = done.line as u64;
+            sizes[1] = done.sent as u64;
+            0
+        }
+        Err(refusal) => refusal.number(),
     }
-    refusal
 }
 
 // Each event: 12 where a number does not fit its field; otherwise the box's answer, stored. First the timeout.
@@ -36,10 +38,9 @@ pub extern "C" fn box_timeout(
     ensures { Steps times_out n.old terms.old orders.old journal.old room.old sizes.old result
         n.new terms.new orders.new journal.new room.new sizes.new }
 {
-    if !box_range(n) {
-        return 12;
-    }
-    let state = box_in(n);
+    let Some(state) = box_in(n) else {
+        return Refusal::BadRecord.number();
+    };
     let b = Node { state };
     let answer = b.timeout(terms, orders, journal, room);
     put_answer(n, sizes, answer)
@@ -58,10 +59,9 @@ pub extern "C" fn box_prompt(
     ensures { Steps is_prompted n.old terms.now orders.now journal.old room.old sizes.old result
         n.new terms.now orders.now journal.new room.new sizes.new }
 {
-    if !box_range(n) {
-        return 12;
-    }
-    let state = box_in(n);
+    let Some(state) = box_in(n) else {
+        return Refusal::BadRecord.number();
+    };
     let b = Node { state };
     let answer = b.prompt(terms, orders, journal, room);
     put_answer(n, sizes, answer)
@@ -81,10 +81,9 @@ pub extern "C" fn box_order(
     ensures { Steps (takes_order order) n.old terms.old orders.old journal.old room.old sizes.old result
         n.new terms.new orders.new journal.new room.new sizes.new }
 {
-    if !box_range(n) {
-        return 12;
-    }
-    let state = box_in(n);
+    let Some(state) = box_in(n) else {
+        return Refusal::BadRecord.number();
+    };
     let b = Node { state };
     let answer = b.order(order, terms, orders, journal, room);
     put_answer(n, sizes, answer)
@@ -104,10 +103,9 @@ pub extern "C" fn box_receive(
     ensures { Steps (receives text.now) n.old terms.old orders.old journal.old room.old sizes.old result
         n.new terms.new orders.new journal.new room.new sizes.new }
 {
-    if !box_range(n) {
-        return 12;
-    }
-    let state = box_in(n);
+    let Some(state) = box_in(n) else {
+        return Refusal::BadRecord.number();
+    };
     let b = Node { state };
     let answer = b.receive(text, terms, orders, journal, room);
     put_answer(n, sizes, answer)
@@ -118,15 +116,14 @@ pub extern "C" fn box_receive(
 pub extern "C" fn box_start(me: u8, mask: u8, n: &mut [u64; 22], room: &mut [u8]) -> u64
     ensures { Begins me mask n.old room.old result n.new room.new }
 {
-    let started = Node::start(me, mask, room);
-    let refusal = started.refusal;
-    if refusal == 0 {
-        let b = started.node;
-        let state = b.state;
-        put_box(n, state);
-        return 256 * 9;
+    match Node::start(me, mask, room) {
+        Ok(started) => {
+            let fresh = started.fresh;
+            put_box(n, fresh.state);
+            256 * 9
+        }
+        Err(refusal) => refusal.number() as u64,
     }
-    refusal as u64
 }
 
 // How many entries are handed out, stored where the answer is 0.
@@ -139,16 +136,15 @@ pub extern "C" fn box_handed_out(
 ) -> u8
     ensures { Hands n.now terms.now orders.now count.old result count.new }
 {
-    if !box_range(n) {
-        return 12;
-    }
-    let state = box_in(n);
+    let Some(state) = box_in(n) else {
+        return Refusal::BadRecord.number();
+    };
     let b = Node { state };
-    let handed = b.handed_out(terms, orders);
-    let refusal = handed.refusal;
-    if refusal == 0 {
-        *count = handed.count as u64;
-        return 0;
+    match b.handed_out(terms, orders) {
+        Ok(handed) => {
+            *count = handed as u64;
+            0
+        }
+        Err(refusal) => refusal.number(),
     }
-    refusal
 }

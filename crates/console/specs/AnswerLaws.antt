@@ -16,10 +16,13 @@ use Rattle.raft.proofs.StepLaws.{no_done}
 use Rattle.raft.proofs.RefusalLaws.{Numbered, numbers, by_test, at_least_one}
 use Rattle.raft.proofs.EventLaws.{step-numbered}
 use Rattle.journal.proofs.LongestLaws.{Longest, longest_line, longest_messages, step-longest}
-use Rattle.record.specs.declared.Record.{Record}
+use Rattle.std.specs.Prelude.{Result, Err}
+use Rattle.frames.specs.declared.refusal.Refusal.{Refusal}
+use Rattle.frames.specs.declared.refusal.Refusal.TheVariants.{BadRecord}
 use Rattle.record.specs.declared.Step.{Step}
+use Rattle.record.specs.declared.Record.{Record}
 use Rattle.record.specs.SizeLaws.{over-next}
-use Rattle.record.specs.Calls.{state_of, record_of, Called, untouched, fit, written, run, Runs, Ready}
+use Rattle.record.specs.Calls.{StepTold, state_of, record_of, Called, untouched, fit, written, run, Runs, Ready}
 use Rattle.console.specs.Session.{event_of, outcome_of, printed}
 use Rattle.printing.specs.Text.{refusal_line}
 use Rattle.console.specs.Calls.{longest, outcome_answer, line_answer, AnswersLine, Known, Roomy}
@@ -48,22 +51,22 @@ outcome-numbered line s = by_test (good s) _ _ (step-numbered (event_of line) s)
 
 module _ (line : List ℕ) {b : Record} {terms orders : List ℕ} (journal messages : List ℕ) where
   -- 12 at a record that is not good
-  pub bad-left : good (state_of b terms orders) ≡ false → {answer : Step} → answer ≡ record { refusal = 12; state = b; line = 0; sent = 0 }
-      → Runs (outcome_of line (state_of b terms orders)) b terms orders journal messages answer terms orders journal messages
+  pub bad-left : good (state_of b terms orders) ≡ false
+      → Runs (outcome_of line (state_of b terms orders)) b terms orders journal messages (Err BadRecord) terms orders journal messages
   unfolding run
-  bad-left g e = rw (not_good line (state_of b terms orders) g, e)
+  bad-left g = rw (not_good line (state_of b terms orders) g)
 
   -- at a good one what the event that it asks for leaves
   pub event-left : Ready b terms orders → (e : Event) → event_of line ≡ e
-      → {answer : Step} {terms' orders' journal' messages' : List ℕ}
+      → (answer : Result (Step Record) Refusal) {terms' orders' journal' messages' : List ℕ}
       → Runs (step e (state_of b terms orders)) b terms orders journal messages answer terms' orders' journal' messages'
       → Runs (outcome_of line (state_of b terms orders)) b terms orders journal messages answer terms' orders' journal' messages'
-  event-left k e is left = rw (outcome-step line (state_of b terms orders) k.rules, is) left
+  event-left k e is answer left = rw (outcome-step line (state_of b terms orders) k.rules, is) left
 
 -- ---- its answer
 
 -- what a step says that it wrote is never longer than a step can be
-pub record Sizes (answer : Step) : Type 0 where
+pub record Sizes (answer : StepTold) : Type 0 where
   pub line : answer.line ≤ longest_line
   pub sent : answer.sent ≤ longest_messages
 

@@ -1,6 +1,6 @@
 -- The first line: a head starts its box, any other is answered 12. Assumes nothing.
 use Rattle.std.specs.Prelude.{ℕ, ◌≤◌, ◌<◌, Bool, cond, ◌&&◌, List, eqb, leb}
-use Rattle.std.proofs.Common.{arith, ◌∙◌, eqb-true, eq-eqb, leb-true, le-leb}
+use Rattle.std.proofs.Common.{arith, ◌∙◌, eqb-true, eq-eqb, leb-true, le-leb, sym}
 use Rattle.std.proofs.Math.Path.{◌≡◌, refl, ap}
 use Rattle.std.proofs.Math.Bool.{true, false}
 use Rattle.std.proofs.Math.ListN.{length}
@@ -15,15 +15,13 @@ use Rattle.raft.specs.Journal.{head}
 use Rattle.journal.specs.Lines.{box_in, mask_in, head_shaped}
 use Rattle.journal.specs.Opening.{is_head}
 use Rattle.record.specs.declared.Record.{Record}
-use Rattle.record.specs.declared.Started.{Started}
-use Rattle.record.specs.Calls.{record_of, begun}
+use Rattle.record.specs.Calls.{StartTold, record_of, begun}
 use Rattle.record.specs.Calls as calls
 use Rattle.record.specs.WrittenLaws.{head-long}
-use Rattle.console.specs.declared.Begun.{Begun}
 use Rattle.console.specs.Session.{is_start}
 use Rattle.printing.specs.Text.{refusal_line}
 use Rattle.printing.specs.TextLaws.{refusal-most}
-use Rattle.console.specs.Calls.{longest, starts, Starts, Beginning, none, beginning, Begins}
+use Rattle.console.specs.Calls.{Begun, longest, starts, Starts, Beginning, none, beginning, Begins}
 use Rattle.printing.specs.Putting.{Puts}
 
 -- a head's form has eight digits
@@ -64,6 +62,11 @@ starts-head : (line room : List ℕ) → head_shaped line ≡ true → starts li
 unfolding starts
 starts-head line room h = rw h
 
+pub starts_unshaped : (line room : List ℕ) → head_shaped line ≡ false
+    → ◌≡◌ {A = calls.Begun} (record { answer = record { refusal = 12; state = none; bytes = 0 }; journal = room }) (starts line room)
+unfolding begun is_membership
+starts_unshaped line room h = sym (starts_none line room h)
+
 pub starts-shaped : (line room : List ℕ) {me mask : ℕ} → head_shaped line ≡ true → me ≡ box_in line → mask ≡ mask_in line
     → begun me mask room ≡ starts line room
 starts-shaped line room h e f = rw (starts-head line room h, e, f)
@@ -91,7 +94,7 @@ starts_by line room h = go (head_shaped line) refl
         )
     go false p = rw (starts_none line room p, unshaped line p)
 
-module _ (line room : List ℕ) (h : longest ≤ length room) {st : Started} {room' : List ℕ} (e : Starts line room st room') where
+module _ (line room : List ℕ) (h : longest ≤ length room) {st : StartTold} {room' : List ℕ} (e : Starts line room st room') where
   -- a start that is refused: 12 is printed
   pub start-bad : (st.refusal ≡ 0 → ⊥) → {room'' : List ℕ} {bytes : ℕ} → Puts room' 0 (refusal_line 12) bytes room''
       → Begins line room (record { fits = true; started = false; state = st.state; bytes = bytes }) room''

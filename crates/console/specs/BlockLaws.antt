@@ -15,9 +15,8 @@ use Rattle.record.specs.Calls.{state_of}
 use Rattle.text.specs.Lines.{first_line}
 use Rattle.text.specs.LinesLaws.{first-most}
 use Rattle.opening.specs.ReplayCode.{lines_end, lines_next}
-use Rattle.console.specs.declared.Answered.{Answered}
 use Rattle.console.specs.Session.{outcome_of, printed}
-use Rattle.console.specs.Calls.{longest, AfterLine, outcome_answer, line_answer, AnswersLine, answer_next, answer_rest, reached, lines_answer, AnswersLines, Known}
+use Rattle.console.specs.Calls.{Answered, longest, AfterLine, outcome_answer, line_answer, AnswersLine, answer_next, answer_rest, reached, lines_answer, AnswersLines, Known}
 use Rattle.printing.specs.TextLaws.{rest-whole, refusal-most}
 use Rattle.console.specs.AnswerLaws.{outcome-short}
 

@@ -1,5 +1,5 @@
 -- The calls: what an answer to a line leaves in everything lent. Assumes nothing.
-use Rattle.std.specs.Prelude.{ℕ, ◌+◌, ◌-◌, ◌≤◌, ◌≡◌, Bool, true, false, cond, List, [], ◌∷◌, ◌++◌, leb, length, take, drop}
+use Rattle.std.specs.Prelude.{ℕ, ◌+◌, ◌-◌, ◌≤◌, ◌≡◌, Bool, true, false, cond, List, [], ◌∷◌, ◌++◌, leb, length, take, drop, Option, Some, None}
 use Rattle.digits.specs.Room.{over}
 use Rattle.frames.specs.Limits.{log_limit}
 use Rattle.raft.specs.Record.{fresh, good}
@@ -9,11 +9,10 @@ use Rattle.raft.specs.Outcome.{Outcome, done, refuse}
 use Rattle.journal.proofs.LongestLaws.{longest_line, longest_messages}
 use Rattle.journal.specs.Lines.{lines, box_in, mask_in, head_shaped}
 use Rattle.record.specs.declared.Record.{Record}
-use Rattle.record.specs.declared.Started.{Started}
-use Rattle.record.specs.Calls.{state_of, record_of, begun}
+use Rattle.record.specs.Calls.{StartTold, state_of, record_of, begun}
 use Rattle.record.specs.Calls as calls
-use Rattle.console.specs.declared.Begun.{Begun}
-use Rattle.console.specs.declared.Answered.{Answered}
+use Rattle.console.specs.declared.Begun as declared
+use Rattle.console.specs.declared.Answered as answers
 use Rattle.console.specs.declared.AnsweredLines.{AnsweredLines}
 use Rattle.console.specs.Session.{outcome_of, printed, is_start}
 use Rattle.printing.specs.Text.{refusal_line}
@@ -28,13 +27,28 @@ longest = longest_line + longest_messages
 unfoldable pub starts : List ℕ → List ℕ → calls.Begun
 starts line room = cond (head_shaped line) (begun (box_in line) (mask_in line) room) (begun 0 0 room)
 
--- Room too short: nothing is done. A bad first line: no box, the struct holds zeros.
+-- Room too short: nothing is done. A bad first line: no box, zeros.
+pub record Begun : Type 0 where
+  pub fits : Bool
+  pub started : Bool
+  pub state : Record
+  pub bytes : ℕ
+
 pub record Beginning : Type 0 where
   pub answer : Begun
   pub room : List ℕ
 
 abbrev pub none : Record
 none = record_of (fresh 0 0)
+
+-- The values of each case of what the code answers.
+abbrev pub started_or : Option Record → ℕ → Begun
+started_or (Some b) bytes = record { fits = true; started = true; state = b; bytes = bytes }
+started_or None bytes = record { fits = true; started = false; state = none; bytes = bytes }
+
+abbrev pub told_begun : Option declared.Begun → Begun
+told_begun (Some r) = started_or r.state r.bytes
+told_begun None = record { fits = false; started = false; state = none; bytes = 0 }
 
 unfoldable pub beginning : List ℕ → List ℕ → Beginning
 beginning line room =
@@ -58,7 +72,17 @@ beginning line room =
 
 -- ---- a later line
 
--- The answer to a line, and everything lent, as it leaves it.
+-- The answer to a line: the next box and how many bytes are to be printed, or that the room is too short.
+pub record Answered : Type 0 where
+  pub state : Record
+  pub fits : Bool
+  pub bytes : ℕ
+
+abbrev pub told : Record → Option answers.Answered → Answered
+told b (Some r) = record { state = r.state; fits = true; bytes = r.bytes }
+told b None = record { state = b; fits = false; bytes = 0 }
+
+-- The same, and everything lent, as it leaves it.
 pub record AfterLine : Type 0 where
   pub answer : Answered
   pub terms : List ℕ
@@ -127,7 +151,7 @@ lines_answer b bytes terms orders room = answer_rest (reached b 0 0 terms orders
 -- ---- as the contracts say it: the lent things before, the answer, and the lent things behind it
 
 -- A box is started by a line,
-abbrev pub Starts : (line room : List ℕ) → Started → (room' : List ℕ) → Type 0
+abbrev pub Starts : (line room : List ℕ) → StartTold → (room' : List ℕ) → Type 0
 Starts line room answer room' = ◌≡◌ {A = calls.Begun} (record { answer = answer; journal = room' }) (starts line room)
 
 -- a first line is answered,

@@ -15,9 +15,8 @@ use Rattle.raft.proofs.EventLaws.{step-good}
 use Rattle.record.specs.declared.Record.{Record}
 use Rattle.record.specs.Calls.{state_of, Ready}
 use Rattle.record.specs.SameLaws.{next-lent}
-use Rattle.console.specs.declared.Answered.{Answered}
 use Rattle.console.specs.Session.{event_of, outcome_of}
-use Rattle.console.specs.Calls.{longest, AfterLine, outcome_answer, line_answer, AnswersLine, Known}
+use Rattle.console.specs.Calls.{Answered, longest, AfterLine, outcome_answer, line_answer, AnswersLine, Known}
 
 -- a record that is known to be good is ready for any event
 pub ready : {known : Bool} {b : Record} {terms orders : List ℕ} → Known known b terms orders → known ≡ true → Ready b terms orders

@@ -8,20 +8,17 @@ pub use blocks::answer_lines;
 pub use lines::{answer, begin};
 use record::Record;
 
-// The first line's answer: false and nothing done where the room is shorter than the longest answer; whether a box was started; how many bytes are to be printed.
+// The first line's answer: the box's record, where one was started, and how many bytes are to be printed.
 #[derive(Clone, Copy)]
 pub struct Begun {
-    pub fits: bool,
-    pub started: bool,
-    pub state: Record,
+    pub state: Option<Record>,
     pub bytes: usize,
 }
 
-// A later line's answer: as above, with the next box.
+// A later line's answer: the next record, and how many bytes are to be printed.
 #[derive(Clone, Copy)]
 pub struct Answered {
     pub state: Record,
-    pub fits: bool,
     pub bytes: usize,
 }
 

@@ -4,6 +4,8 @@
 // of the one below it, and all of them rest on one law over the width (specs/Laws.antt).
 //
 // A table is copied to the stack where it is used, so the writers make it once for a field and lend it to the halves.
+//
+// A room is lent whole, with a place in it: what is promised is all of it (`over`), and a part would say nothing of the rest.
 #![tactic(auto)]
 
 mod tables;
@@ -43,7 +45,7 @@ fn worth(c: u8) -> u8
 }
 
 // A number of so many bytes that stands in a text as a field. A byte is two digits, and each wider number is two of half
-// its width. (Its halves are had by division: `to_be_bytes` gives single bytes, and there a loop would put them together.)
+// its width. (The halves come by division and remainder: `to_be_bytes` gives bytes, which would have to be made halves again.)
 pub trait Field {
     ghost width: { ℕ };
 

@@ -13,12 +13,7 @@ box_range n =
     && ltb (get_or n 6 0) 256 && ltb (get_or n 7 0) 256 && small n 8 && small n 9 && small n 10 && small n 11 && small n 12 && small n 13
     && small n 14 && small n 15 && small n 16 && small n 17 && small n 18 && small n 19 && small n 20 && small n 21
 
--- Seven numbers from a place on, each of which fits its field,
-abbrev pub seven_small : List ℕ → ℕ → Bool
-seven_small n at =
-    small n at && small n (at + 1) && small n (at + 2) && small n (at + 3) && small n (at + 4) && small n (at + 5) && small n (at + 6)
-
--- and as a list.
+-- Seven numbers from a place on.
 abbrev pub seven_in : List ℕ → ℕ → List ℕ
 seven_in n at =
     get_or n at 0 % 65536 ∷ get_or n (at + 1) 0 % 65536 ∷ get_or n (at + 2) 0 % 65536 ∷ get_or n (at + 3) 0 % 65536 ∷ get_or n (at + 4) 0 % 65536

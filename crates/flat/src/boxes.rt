@@ -1,49 +1,73 @@
 // A box's record as 22 numbers: me, members, term, vote, last, commit, role, votes, then next and then match of the seven boxes.
-ghost use Rattle.std.specs.Prelude.{◌≡◌, ◌≤◌, ◌&&◌, cond};
-ghost use Rattle.flat.specs.Box.{seven_small, seven_in, box_range, box_in, stored_7, lead_flat, box_flat};
+// (The C interface has an array of numbers, all of one width, so each field is put into its place by hand.)
+ghost use Rattle.std.specs.Prelude.{◌≡◌, ◌≤◌, cond};
+ghost use Rattle.flat.specs.Box.{box_range, box_in, stored_7, lead_flat, box_flat};
 
 use record::{Lead, Record};
 
-// Seven numbers from a place on, where each fits.
-fn seven_in(n: &[u64; 22], at: usize) -> Option<[u16; Record::BOXES]>
-    requires { at ≤ 15 }
-    ensures { result ≡ cond (seven_small n.now at) (Some (seven_in n.now at)) None }
+// Each number fits the field that it is for: one test of all of them. (With `try_from`, a branch for each number, it took twice as long.)
+fn box_range(n: &[u64; 22]) -> bool
+    ensures { result ≡ box_range n.now }
 {
-    Some([
-        u16::try_from(n[at]).ok()?,
-        u16::try_from(n[at + 1]).ok()?,
-        u16::try_from(n[at + 2]).ok()?,
-        u16::try_from(n[at + 3]).ok()?,
-        u16::try_from(n[at + 4]).ok()?,
-        u16::try_from(n[at + 5]).ok()?,
-        u16::try_from(n[at + 6]).ok()?,
-    ])
-}
-
-// Next and match.
-fn lead_in(n: &[u64; 22]) -> Option<Lead>
-    ensures { result ≡ cond (seven_small n.now 8 && seven_small n.now 15) (Some (record { next = seven_in n.now 8; matched = seven_in n.now 15 })) None }
-{
-    Some(Lead {
-        next: seven_in(n, 8)?,
-        matched: seven_in(n, 15)?,
-    })
+    (n[0] < 256)
+        & (n[1] < 256)
+        & (n[2] < 4294967296)
+        & (n[3] < 256)
+        & (n[4] < 65536)
+        & (n[5] < 65536)
+        & (n[6] < 256)
+        & (n[7] < 256)
+        & (n[8] < 65536)
+        & (n[9] < 65536)
+        & (n[10] < 65536)
+        & (n[11] < 65536)
+        & (n[12] < 65536)
+        & (n[13] < 65536)
+        & (n[14] < 65536)
+        & (n[15] < 65536)
+        & (n[16] < 65536)
+        & (n[17] < 65536)
+        & (n[18] < 65536)
+        & (n[19] < 65536)
+        & (n[20] < 65536)
+        & (n[21] < 65536)
 }
 
 // The box that the numbers are, where each fits the field that it is for.
 pub fn box_in(n: &[u64; 22]) -> Option<Record>
     ensures { result ≡ cond (box_range n.now) (Some (box_in n.now)) None }
 {
-    let lead = lead_in(n)?;
+    if !box_range(n) {
+        return None;
+    }
+    let next = [
+        n[8] as u16,
+        n[9] as u16,
+        n[10] as u16,
+        n[11] as u16,
+        n[12] as u16,
+        n[13] as u16,
+        n[14] as u16,
+    ];
+    let matched = [
+        n[15] as u16,
+        n[16] as u16,
+        n[17] as u16,
+        n[18] as u16,
+        n[19] as u16,
+        n[20] as u16,
+        n[21] as u16,
+    ];
+    let lead = Lead { next, matched };
     Some(Record {
-        me: u8::try_from(n[0]).ok()?,
-        members: u8::try_from(n[1]).ok()?,
-        term: u32::try_from(n[2]).ok()?,
-        vote: u8::try_from(n[3]).ok()?,
-        last: u16::try_from(n[4]).ok()?,
-        commit: u16::try_from(n[5]).ok()?,
-        role: u8::try_from(n[6]).ok()?,
-        votes: u8::try_from(n[7]).ok()?,
+        me: n[0] as u8,
+        members: n[1] as u8,
+        term: n[2] as u32,
+        vote: n[3] as u8,
+        last: n[4] as u16,
+        commit: n[5] as u16,
+        role: n[6] as u8,
+        votes: n[7] as u8,
         lead,
     })
 }

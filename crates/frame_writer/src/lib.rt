@@ -106,32 +106,15 @@ pub fn put_append_start(
 }
 
 // Kind 3 whole, from the entries of the struct.
-fn put_append(
-    room: &mut [u8],
-    from: u8,
-    to: u8,
-    term: u32,
-    index: u16,
-    prior: u32,
-    commit: u16,
-    entries: &[Entry],
-)
-    requires few { length entries.now ≤ entry_limit }
-    requires room { 35 + 24 * length entries.now ≤ length room.old }
-    ensures { room.new ≡ over room.old 0 (text (append from to term index prior commit entries.now)) }
+fn put_append(room: &mut [u8], f: Fields)
+    requires few { f.count ≤ entry_limit }
+    requires room { 35 + 24 * f.count ≤ length room.old }
+    ensures { room.new ≡ over room.old 0 (text (append f.from f.to f.term f.index f.prior f.commit (listed f.entries 0 f.count))) }
 {
-    put_append_start(
-        room,
-        from,
-        to,
-        term,
-        index,
-        prior,
-        commit,
-        entries.len() as u8,
-    );
+    let entries = &f.entries[..f.count as usize];
+    put_append_start(room, f.from, f.to, f.term, f.index, f.prior, f.commit, f.count);
     put_entries(room, 34, entries);
-    put_end(room, 34 + 24 * entries.len());
+    put_end(room, 34 + 24 * f.count as usize);
 }
 
 // The frame of the fields' kind.
@@ -143,12 +126,7 @@ fn put_frame(room: &mut [u8], f: Fields)
     match f.kind {
         Fields::VOTE_REQUEST => put_vote_request(room, f.from, f.to, f.term, f.index, f.prior),
         Fields::VOTE_ANSWER => put_vote_answer(room, f.from, f.to, f.term, f.reply),
-        Fields::APPEND => {
-            let entries = &f.entries[..f.count as usize];
-            put_append(
-                room, f.from, f.to, f.term, f.index, f.prior, f.commit, entries,
-            )
-        }
+        Fields::APPEND => put_append(room, f),
         _ => put_append_answer(room, f.from, f.to, f.term, f.reply, f.index),
     }
 }

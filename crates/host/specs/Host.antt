@@ -9,9 +9,7 @@ use Rattle.safety.specs.Park.{Comes}
 use Rattle.record.specs.declared.Record.{Record}
 use Rattle.record.specs.ExactlyWhen.{no_frame}
 use Rattle.node.specs.declared.Node.{Node}
-use Rattle.node.specs.declared.Started.{Started}
-use Rattle.node.specs.declared.Answer.{Answer}
-use Rattle.node.specs.Outside.{Starts, Calls}
+use Rattle.node.specs.Outside.{Answer, Started, Starts, Calls}
 use Rattle.opening.specs.declared.Opened.{Opened}
 use Rattle.opening.specs.declared.Unopened.{Unopened}
 use Rattle.opening.specs.declared.Unopened.TheVariants.{NoHead}

@@ -47,7 +47,7 @@ fn put_first(room: &mut [u8], bytes: u64, term: u32, vote: u8, last: u16) -> usi
     put_number(room, three, last as u64, 10)
 }
 
-// So many entries of the lent log, each on a line of its own.
+// So many entries of the lent log, each on a line of its own. (Terms and orders are lent apart, as C and the programs have them.)
 fn put_log(room: &mut [u8], at: usize, terms: &[u32], orders: &[u64], last: usize)
     requires { Listable terms.now orders.now last room.old at }
     ensures { room.new ≡ over room.old at

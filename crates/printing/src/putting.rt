@@ -1,4 +1,4 @@
-// What is printed: a text put at a place, a number in decimal, the line of a refusal.
+// What is printed: a text put at a place, a number in decimal, the line of a refusal. The room is lent whole, with a place in it: `Puts` promises all of it.
 ghost use Rattle.std.specs.Prelude.{◌≡◌, ◌+◌, ◌≤◌, length};
 ghost use Rattle.digits.specs.Room.{over};
 ghost use Rattle.printing.specs.Text.{decimal_in, refusal_line};
@@ -15,7 +15,8 @@ pub fn put(room: &mut [u8], at: usize, text: &[u8])
     room[at..at + text.len()].copy_from_slice(text);
 }
 
-// Puts a number's last so many decimal places at a place, none in front of its first; answers the place behind them.
+// Puts a number's last so many decimal places at a place, none in front of its first; answers the place behind them. (By hand: `write!` promises no text to a slice, and with
+// the kit's `itoa` a refusal's line took 43 instructions in place of 30.)
 pub fn put_decimal(room: &mut [u8], at: usize, n: u64, places: usize) -> usize
     requires { at + places ≤ length room.old }
     ensures puts { Puts room.old at (decimal_in places n) result room.new }

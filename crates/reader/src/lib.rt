@@ -1,4 +1,5 @@
 // An input, the programs' standard input, in large blocks. The bytes of a line that is not whole yet stay at the block's start until the rest has come.
+// How much a block holds goes beside it as a number: a slice of what it holds has no room behind it to read into.
 #![tactic(auto)]
 
 ghost use Rattle.std.specs.Prelude.{◌+◌, ◌-◌, ◌≤◌, ◌<◌, ◌≡◌, IfSome, length, take, drop};

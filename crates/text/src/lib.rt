@@ -31,7 +31,8 @@ fn line_feed(bytes: &[u8]) -> Option<usize>
     bytes.iter().position(|b| *b == 10)
 }
 
-// The place behind the first line feed from a place on, or that place where there is none.
+// The place behind the first line feed from a place on, or that place where there is none. (A number and no Option, as in
+// the definition: `first_line` is 0 where there is none, and all that is proved of lines counts on from it.)
 pub fn line_end(bytes: &[u8], at: usize) -> usize
     requires { at ≤ length bytes.now }
     ensures { result ≡ at + first_line (drop at bytes.now) }

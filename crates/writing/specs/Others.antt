@@ -1,7 +1,6 @@
 -- Messages to all other members, written into the room one behind the other, each into what is left of it. Assumes nothing.
 use Rattle.std.specs.Prelude.{ℕ, zero, suc, ◌+◌, ◌-◌, ◌≤◌, ◌≡◌, refl, true, false, List, [], ◌++◌, length, take, drop}
-use Rattle.std.proofs.Common.{append-nil, arith, sym, ap, ◌∙◌}
-use denote.Ref.{MutBor}
+use Rattle.std.proofs.Common.{MutBor, append-nil, arith, sym, ap, ◌∙◌}
 use Rattle.digits.specs.Room.{over}
 use Rattle.frames.specs.declared.Entry.{Entry}
 use Rattle.frames.specs.Limits.{boxes}

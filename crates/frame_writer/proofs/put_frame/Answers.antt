@@ -17,14 +17,10 @@ unfolding size
 put_vote_answer-requires c =
     omega (arith, room_of c.args.f c.args.room.now c.requires 2 c.in-2.is)
 
-pub shared_ref_as_front-entries : goal.shared_ref_as_front-entries
-shared_ref_as_front-entries c = (whole c.args.f c.requires.frame).few
-
-pub put_append-requires-clause-room : goal.put_append-requires-clause-room
+pub put_append-requires : goal.put_append-requires
 unfolding size
-put_append-requires-clause-room c =
-    rw (← listed-take c.args.f.entries c.args.f.count (omega (arith, whole c.args.f c.requires.frame)), length-listed)
-    (omega (arith, room_of c.args.f c.args.room.now c.requires 3 c.in-3.is))
+put_append-requires c =
+    record { few = (whole c.args.f c.requires.frame).few; room = omega (arith, room_of c.args.f c.args.room.now c.requires 3 c.in-3.is) }
 
 pub put_append_answer-requires : goal.put_append_answer-requires
 unfolding size
@@ -32,6 +28,3 @@ put_append_answer-requires c =
     let fourth : c.args.f.kind ≡ 4 = omega (arith, whole c.args.f c.requires.frame) in
     omega (arith, room_of c.args.f c.args.room.now c.requires 4 fourth)
 
-pub returns-in-3 : goal.returns-in-3
-returns-in-3 c =
-    rw (kind_3 _ _ _ _ _ c.in-3.is, listed-take c.args.f.entries c.args.f.count (omega (arith, whole c.args.f c.requires.frame))) c.put_append.ensures

@@ -1,17 +1,11 @@
 -- 12 where a number does not fit; otherwise the box's answer, stored.
-use mathlib.Core.Bool.{not}
-use mathlib.Core.Path.{ap}
 use Rattle.raft.specs.Event.{takes_order}
+use Rattle.flat.specs.Taken.{taken, not_taken}
 use Rattle.abi.specs.BoxLaws.{event-none, event-step}
 use Rattle.abi.proofs.boxes.box_order.Goals as goal
 
-pub returns-then-not-box_range : goal.returns-then-not-box_range
-returns-then-not-box_range c =
-    event-none (takes_order c.args.order) c.args.n.now c.args.terms.now c.args.orders.now c.args.journal.now c.args.room.now c.args.sizes.now
-    c.box_range.ensures (ap not c.if-not-box_range.true)
+pub returns-in-None : goal.returns-in-None
+returns-in-None c = ?
 
 pub returns : goal.returns
-returns c =
-    event-step (takes_order c.args.order) c.args.n.now c.args.terms.now c.args.orders.now c.args.journal.now c.args.room.now c.args.sizes.now
-    c.box_range.ensures (ap not c.if-not-box_range.false)
-    c.box_in-state.result c.order-answer.result c.box_in-state.ensures c.order-answer.ensures c.put_answer.ensures
+returns c = ?

@@ -1,19 +1,22 @@
 -- A head starts its box; any other line is answered 12.
 use native.Mathlib.Omega.{arith}
+use mathlib.Core.Path.{◌≡◌, refl, sym}
+use Rattle.frames.specs.Refusal.{number}
+use Rattle.record.specs.TellingLaws.{not_done}
 use Rattle.console.specs.BeginLaws.{begin_short, start-bad, start-done, begin_within}
 use Rattle.console.proofs.lines.begin.Goals as goal
 
 pub returns-then-room-lt-LONGEST : goal.returns-then-room-lt-LONGEST
 returns-then-room-lt-LONGEST c =
-    let whole = begin_short c.args.line.now c.args.room.now c.if-room-lt-LONGEST.true c.fresh-state.ensures in
+    record { begins = begin_short c.args.line.now c.args.room.now c.if-room-lt-LONGEST.true refl; bytes_in_bounds = tt }
+
+pub returns-in-Ok : goal.returns-in-Ok
+returns-in-Ok c =
+    let whole = start-done c.args.line.now c.args.room.now (omega (arith, c.if-room-lt-LONGEST.false)) c.in-Ok.ensures refl in
     record { begins = whole; bytes_in_bounds = begin_within c.args.line.now c.args.room.now whole }
 
-pub returns-then-done-ne0 : goal.returns-then-done-ne0
-returns-then-done-ne0 c =
-    let whole = start-bad c.args.line.now c.args.room.now (omega (arith, c.if-room-lt-LONGEST.false)) c.start-done.ensures c.if-done-ne0.true c.put_refusal-bytes.ensures in
-    record { begins = whole; bytes_in_bounds = begin_within c.args.line.now c.args.room.now whole }
-
-pub returns : goal.returns
-returns c =
-    let whole = start-done c.args.line.now c.args.room.now (omega (arith, c.if-room-lt-LONGEST.false)) c.start-done.ensures c.if-done-ne0.false in
+pub returns-in-Err : goal.returns-in-Err
+returns-in-Err c =
+    let refused : number c.in-Err.field-0 ≡ 0 → ⊥ = λ e. not_done c.in-Err.field-0 (sym e) in
+    let whole = start-bad c.args.line.now c.args.room.now (omega (arith, c.if-room-lt-LONGEST.false)) c.in-Err.ensures refused c.put_refusal.ensures in
     record { begins = whole; bytes_in_bounds = begin_within c.args.line.now c.args.room.now whole }
