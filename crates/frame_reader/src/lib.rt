@@ -27,7 +27,7 @@ fn is_headed(s: &[u8], kind: u8) -> bool
     requires { LineOf s.now kind }
     ensures { result ≡ reading.is_headed s.now }
 {
-    (digits::get_u8(s, 0) == 1) & (1 <= kind) & (kind <= 4)
+    (digits::get::<u8>(s, 0) == 1) & (1 <= kind) & (kind <= 4)
 }
 
 // Only an append has a count, behind its commit.
@@ -36,7 +36,7 @@ fn count(s: &[u8], kind: u8) -> u8
     ensures { result ≡ reading.count s.now }
 {
     if kind == Fields::APPEND {
-        digits::get_u8(s, 32)
+        digits::get(s, 32)
     } else {
         0
     }
@@ -61,7 +61,7 @@ fn is_readable(s: &[u8]) -> bool
     if s.len() < 19 || !is_line(s) {
         return false;
     }
-    let kind = digits::get_u8(s, 2);
+    let kind: u8 = digits::get(s, 2);
     is_headed(s, kind) && is_long(s, kind)
 }
 
@@ -74,11 +74,11 @@ fn vote_request(s: &[u8]) -> Fields
 {
     Fields {
         kind: Fields::VOTE_REQUEST,
-        from: digits::get_u8(s, 4),
-        to: digits::get_u8(s, 6),
-        term: digits::get_u32(s, 8),
-        index: digits::get_u16(s, 16),
-        prior: digits::get_u32(s, 20),
+        from: digits::get(s, 4),
+        to: digits::get(s, 6),
+        term: digits::get(s, 8),
+        index: digits::get(s, 16),
+        prior: digits::get(s, 20),
         ..Fields::NONE
     }
 }
@@ -90,10 +90,10 @@ fn vote_answer(s: &[u8]) -> Fields
 {
     Fields {
         kind: Fields::VOTE_ANSWER,
-        from: digits::get_u8(s, 4),
-        to: digits::get_u8(s, 6),
-        term: digits::get_u32(s, 8),
-        reply: digits::get_u8(s, 16),
+        from: digits::get(s, 4),
+        to: digits::get(s, 6),
+        term: digits::get(s, 8),
+        reply: digits::get(s, 16),
         ..Fields::NONE
     }
 }
@@ -105,11 +105,11 @@ fn append_answer(s: &[u8]) -> Fields
 {
     Fields {
         kind: Fields::APPEND_ANSWER,
-        from: digits::get_u8(s, 4),
-        to: digits::get_u8(s, 6),
-        term: digits::get_u32(s, 8),
-        index: digits::get_u16(s, 18),
-        reply: digits::get_u8(s, 16),
+        from: digits::get(s, 4),
+        to: digits::get(s, 6),
+        term: digits::get(s, 8),
+        index: digits::get(s, 18),
+        reply: digits::get(s, 16),
         ..Fields::NONE
     }
 }
@@ -124,8 +124,8 @@ fn entry(s: &[u8], from: usize, at: usize, count: u8) -> Entry
     }
     let place = from + 24 * at;
     Entry {
-        term: digits::get_u32(s, place),
-        order: digits::get_u64(s, place + 8),
+        term: digits::get(s, place),
+        order: digits::get(s, place + 8),
     }
 }
 
@@ -147,16 +147,16 @@ fn append(s: &[u8]) -> Fields
     requires { 34 + 24 * field s.now 32 1 ≤ run s.now }
     ensures { result ≡ fields_of (reading.append_in s.now) }
 {
-    let count = digits::get_u8(s, 32);
+    let count: u8 = digits::get(s, 32);
     let entries = entries(s, 34, count);
     Fields {
         kind: Fields::APPEND,
-        from: digits::get_u8(s, 4),
-        to: digits::get_u8(s, 6),
-        term: digits::get_u32(s, 8),
-        index: digits::get_u16(s, 16),
-        prior: digits::get_u32(s, 20),
-        commit: digits::get_u16(s, 28),
+        from: digits::get(s, 4),
+        to: digits::get(s, 6),
+        term: digits::get(s, 8),
+        index: digits::get(s, 16),
+        prior: digits::get(s, 20),
+        commit: digits::get(s, 28),
         count,
         entries,
         ..Fields::NONE
@@ -169,7 +169,7 @@ fn fields(s: &[u8]) -> Fields
     requires { reading.readable s.now ≡ true }
     ensures { result ≡ fields_of (reading.message_in s.now) }
 {
-    match digits::get_u8(s, 2) {
+    match digits::get::<u8>(s, 2) {
         Fields::VOTE_REQUEST => vote_request(s),
         Fields::VOTE_ANSWER => vote_answer(s),
         Fields::APPEND => append(s),

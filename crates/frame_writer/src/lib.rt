@@ -16,11 +16,11 @@ fn put_start(room: &mut [u8], kind: u8, from: u8, to: u8, term: u32)
     requires { 16 ≤ length room.old }
     ensures { room.new ≡ over room.old 0 (spell (start kind from to term [])) }
 {
-    digits::put_u8(room, 0, 1);
-    digits::put_u8(room, 2, kind);
-    digits::put_u8(room, 4, from);
-    digits::put_u8(room, 6, to);
-    digits::put_u32(room, 8, term);
+    digits::put(room, 0, 1u8);
+    digits::put(room, 2, kind);
+    digits::put(room, 4, from);
+    digits::put(room, 6, to);
+    digits::put(room, 8, term);
 }
 
 // The line feed that ends a frame or a journal line. (An inside call.)
@@ -39,8 +39,8 @@ pub fn put_vote_request(room: &mut [u8], from: u8, to: u8, term: u32, index: u16
     ensures { room.new ≡ over room.old 0 (text (vote_request from to term index prior)) }
 {
     put_start(room, 1, from, to, term);
-    digits::put_u16(room, 16, index);
-    digits::put_u32(room, 20, prior);
+    digits::put(room, 16, index);
+    digits::put(room, 20, prior);
     put_end(room, 28);
 }
 
@@ -50,7 +50,7 @@ pub fn put_vote_answer(room: &mut [u8], from: u8, to: u8, term: u32, reply: u8)
     ensures { room.new ≡ over room.old 0 (text (vote_answer from to term reply)) }
 {
     put_start(room, 2, from, to, term);
-    digits::put_u8(room, 16, reply);
+    digits::put(room, 16, reply);
     put_end(room, 18);
 }
 
@@ -60,8 +60,8 @@ pub fn put_append_answer(room: &mut [u8], from: u8, to: u8, term: u32, reply: u8
     ensures { room.new ≡ over room.old 0 (text (append_answer from to term reply index)) }
 {
     put_start(room, 4, from, to, term);
-    digits::put_u8(room, 16, reply);
-    digits::put_u16(room, 18, index);
+    digits::put(room, 16, reply);
+    digits::put(room, 18, index);
     put_end(room, 22);
 }
 
@@ -70,8 +70,8 @@ pub fn put_entry(room: &mut [u8], at: usize, term: u32, order: u64)
     requires { at + 24 ≤ length room.old }
     ensures { room.new ≡ over room.old at (spell (entry_fields (record { term = term; order = order } ∷ []))) }
 {
-    digits::put_u32(room, at, term);
-    digits::put_u64(room, at + 8, order);
+    digits::put(room, at, term);
+    digits::put(room, at + 8, order);
 }
 
 // Entries, one behind the other, from a place on. (An inside call.)
@@ -99,10 +99,10 @@ pub fn put_append_start(
     ensures { room.new ≡ over room.old 0 (spell (start 3 from to term (number 2 index ∷ number 4 prior ∷ number 2 commit ∷ number 1 count ∷ []))) }
 {
     put_start(room, 3, from, to, term);
-    digits::put_u16(room, 16, index);
-    digits::put_u32(room, 20, prior);
-    digits::put_u16(room, 28, commit);
-    digits::put_u8(room, 32, count);
+    digits::put(room, 16, index);
+    digits::put(room, 20, prior);
+    digits::put(room, 28, commit);
+    digits::put(room, 32, count);
 }
 
 // Kind 3 whole, from the entries of the struct.
@@ -112,7 +112,9 @@ fn put_append(room: &mut [u8], f: Fields)
     ensures { room.new ≡ over room.old 0 (text (append f.from f.to f.term f.index f.prior f.commit (listed f.entries 0 f.count))) }
 {
     let entries = &f.entries[..f.count as usize];
-    put_append_start(room, f.from, f.to, f.term, f.index, f.prior, f.commit, f.count);
+    put_append_start(
+        room, f.from, f.to, f.term, f.index, f.prior, f.commit, f.count,
+    );
     put_entries(room, 34, entries);
     put_end(room, 34 + 24 * f.count as usize);
 }

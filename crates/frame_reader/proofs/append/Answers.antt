@@ -8,13 +8,13 @@ pub returns : goal.returns
 unfolding fields_of append_in
 returns c =
     rw (
-      c.get_u16-2.ensures,
-      c.get_u32-2.ensures,
-      c.get_u16.ensures,
-      c.get_u32.ensures,
-      c.get_u8-2.ensures,
-      c.get_u8.ensures,
+      c.get.ensures,
+      c.get-2.ensures,
+      c.get-3.ensures,
+      c.get-4.ensures,
+      c.get-5.ensures,
+      c.get-6.ensures,
       c.entries-entries.ensures,
-      c.get_u8-count.ensures,
+      c.get-count.ensures,
       length-entries,
     )

@@ -12,4 +12,4 @@ returns-then-count-at c =
 pub returns : goal.returns
 unfolding entry_at
 returns c =
-    rw (c.get_u32.ensures, c.get_u64.ensures) (sym (entry-there c.args.s.now c.args.from c.args.count c.args.at (omega arith)))
+    rw (c.get.ensures, c.get-2.ensures) (sym (entry-there c.args.s.now c.args.from c.args.count c.args.at (omega arith)))

@@ -14,8 +14,8 @@ returns-then-s-lt19 c =
       | then-s-lt19-via-else-s-lt19+then-not-is_line w ↦ rw (sym w.is_line.ensures ∙ w.if-not-is_line.true)
     ]
 
-pub get_u8-kind-requires : goal.get_u8-kind-requires
-get_u8-kind-requires c = omega (arith, line-run _ (sym c.if-not-is_line.ensures))
+pub get-kind-requires : goal.get-kind-requires
+get-kind-requires c = omega (arith, line-run _ (sym c.if-not-is_line.ensures))
 
 pub is_headed-requires : goal.is_headed-requires
 unfolding kind
@@ -23,15 +23,15 @@ is_headed-requires c =
     record {
       line = sym c.if-not-is_line.ensures;
       digits = omega (arith, line-run _ (sym c.if-not-is_line.ensures));
-      kind_is = c.get_u8-kind.ensures;
+      kind_is = c.get-kind.ensures;
     }
 
 pub is_long-requires : goal.is_long-requires
 unfolding kind
 is_long-requires c =
     record {
-      kind_is = c.get_u8-kind.ensures;
-      most = omega (arith, c.get_u8-kind.ensures, headed_kind _ (sym c.if-is_headed.ensures));
+      kind_is = c.get-kind.ensures;
+      most = omega (arith, c.get-kind.ensures, headed_kind _ (sym c.if-is_headed.ensures));
       line = line-run _ (sym c.if-not-is_line.ensures);
     }
 

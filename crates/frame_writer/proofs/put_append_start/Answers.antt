@@ -13,7 +13,7 @@ returns c =
     (put_next c.args.room.now 0 (head (number 2 c.args.index ∷ [])) (number 4 c.args.prior) (omega arith)
     (put_next c.args.room.now 0 (head []) (number 2 c.args.index) (omega arith)
     c.put_start.ensures
-    c.put_u16.ensures)
-    c.put_u32.ensures)
-    c.put_u16-2.ensures)
-    c.put_u8.ensures
+    c.put.ensures)
+    c.put-2.ensures)
+    c.put-3.ensures)
+    c.put-4.ensures

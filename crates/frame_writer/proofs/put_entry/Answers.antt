@@ -11,5 +11,5 @@ pub returns : goal.returns
 unfolding entry_fields
 returns c =
     put_next c.args.room.now c.args.at (number 4 c.args.term ∷ []) (Message.order c.args.order) (omega arith)
-    (put_next c.args.room.now c.args.at [] (number 4 c.args.term) (omega arith) (put-none c.args.room.now c.args.at) (rw add-zero c.put_u32.ensures))
-    c.put_u64.ensures
+    (put_next c.args.room.now c.args.at [] (number 4 c.args.term) (omega arith) (put-none c.args.room.now c.args.at) (rw add-zero c.put.ensures))
+    c.put-2.ensures

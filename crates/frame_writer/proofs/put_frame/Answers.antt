@@ -27,4 +27,3 @@ unfolding size
 put_append_answer-requires c =
     let fourth : c.args.f.kind ≡ 4 = omega (arith, whole c.args.f c.requires.frame) in
     omega (arith, room_of c.args.f c.args.room.now c.requires 4 fourth)
-

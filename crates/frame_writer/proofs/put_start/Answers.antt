@@ -13,8 +13,8 @@ returns c =
     (put_next c.args.room.now 0 (number 1 1 ∷ []) (number 1 c.args.kind) (omega arith)
     (put_next c.args.room.now 0 [] (number 1 1) (omega arith)
     (put-none c.args.room.now 0)
-    c.put_u8.ensures)
-    c.put_u8-2.ensures)
-    c.put_u8-3.ensures)
-    c.put_u8-4.ensures)
-    c.put_u32.ensures
+    c.put.ensures)
+    c.put-2.ensures)
+    c.put-3.ensures)
+    c.put-4.ensures)
+    c.put-5.ensures

@@ -11,5 +11,5 @@ returns c =
     put-line c.args.room.now (vote_answer c.args.from c.args.to c.args.term c.args.reply) (omega arith)
     (put_next c.args.room.now 0 (start 2 c.args.from c.args.to c.args.term []) (number 1 c.args.reply) (omega arith)
     c.put_start.ensures
-    c.put_u8.ensures)
+    c.put.ensures)
     c.put_end.ensures

@@ -13,6 +13,6 @@ returns c =
     (put_next c.args.room.now 0 (head (number 2 c.args.index ∷ [])) (number 4 c.args.prior) (omega arith)
     (put_next c.args.room.now 0 (head []) (number 2 c.args.index) (omega arith)
     c.put_start.ensures
-    c.put_u16.ensures)
-    c.put_u32.ensures)
+    c.put.ensures)
+    c.put-2.ensures)
     c.put_end.ensures
