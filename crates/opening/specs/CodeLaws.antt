@@ -1,11 +1,12 @@
 -- What the code's proofs use: whole lines, their form and fields, and their rules on the structs. Assumes nothing.
-use Rattle.std.specs.Prelude.{ℕ, suc, ◌+◌, ◌≤◌, ◌≡◌, refl, Bool, true, false, cond, ◌&&◌, ◌||◌, List, [], ◌∷◌, eqb, ltb, leb, length, take, Option, Some, None, Result, Ok, Err, ok_or, is_ok}
-use Rattle.std.proofs.Common.{arith, sym, ap, ◌∙◌, true≢false, eqb-true, leb-true}
+use Rattle.std.specs.Prelude.{ℕ, suc, ◌+◌, ◌≤◌, ◌≡◌, refl, Bool, true, false, cond, ◌&&◌, ◌||◌, List, [], ◌∷◌, eqb, ltb, leb, length, take, Ok, Err}
+use Rattle.std.proofs.Common.{arith, sym, ap, ◌∙◌, eqb-true, leb-true}
 use Rattle.std.proofs.lemmas.Bool.{eqb-false}
 use Rattle.digits.specs.Digits.{field}
 use Rattle.digits.specs.Tests.{and_left, and_right}
 use Rattle.frames.specs.declared.Entry.{Entry}
 use Rattle.frames.specs.Limits.{log_limit, entry_limit}
+use Rattle.frames.specs.declared.refusal.Refusal.{Refusal}
 use Rattle.frames.specs.Message.{line_feed}
 use Rattle.frames.specs.Rules.{in_order}
 use Rattle.frames.specs.Reading.{text_size, is_line, version, kind, entries_at}
@@ -14,16 +15,17 @@ use Rattle.frames.specs.Clauses.{four}
 use Rattle.frames.specs.Laws.{length-listed}
 use Rattle.frames.proofs.ReadingLaws.{listed-places, length-entries}
 use Rattle.raft.proofs.SendLaws.{All}
-use Rattle.raft.specs.Record.{term_at, is_vote}
+use Rattle.raft.specs.Record.{fresh, term_at, is_vote}
 use Rattle.raft.specs.LentLaws.{length-entries_of}
 use Rattle.record.specs.declared.Record.{Record}
-use Rattle.record.specs.Calls.{entries_of, state_of}
+use Rattle.record.specs.Calls.{entries_of, state_of, record_of}
 use Rattle.opening.specs.declared.LineFields.{LineFields}
 use Rattle.journal.specs.Lines.{box_in, mask_in, count_in, line_in, head_shaped}
 use Rattle.journal.specs.Opening.{is_head, allows}
 use Rattle.journal.proofs.LinesLaws.{Feedless, Whole}
 use Rattle.text.specs.Lines.{first_line}
-use Rattle.opening.specs.Calls.{line_of, allows_numbers}
+use Rattle.opening.specs.Calls.{ReplayedTold, heading, Heads, line_of, allows_numbers}
+use Rattle.opening.specs.ToldLaws.{not_0}
 
 -- ---- where a line ends
 
@@ -63,22 +65,23 @@ unfolding head_shaped
 head_nine_long s h =
     eqb-true (length s) 9 (four (is_line s) (eqb (version s) 1) (eqb (kind s) 17) (eqb (length s) (text_size 4)) h).3
 
--- what is known where no mask was found, and where one was
-module _ (me : ℕ) (s : List ℕ) {E : Type 0} (none : E) {o : Option ℕ} (f : o ≡ cond (is_head me s) (Some (mask_in s)) None) {x : Result ℕ E}
-    (e : x ≡ ok_or o none) where
-  pub mask-none : {why : E} → x ≡ Err why → (is_head me s ≡ false) × (why ≡ none)
-  mask-none {why} w = go (is_head me s) refl
+-- what is known where one was read, and where none was
+module _ (me : ℕ) (line : List ℕ) where
+  pub headed : (n : Record) → Heads me line (Ok n) → (is_head me line ≡ true) × (n ≡ record_of (fresh me (mask_in line)))
+  unfolding heading
+  headed n e = go (is_head me line) refl
     where
-      go : (b : Bool) → is_head me s ≡ b → (is_head me s ≡ false) × (why ≡ none)
-      go true q = let is : x ≡ Ok (mask_in s) = e ∙ rw (f, q) refl in absurd (true≢false (ap is_ok (sym is ∙ w)))
-      go false q = let is : x ≡ Err none = e ∙ rw (f, q) refl in (q, cc)
+      go : (b : Bool) → is_head me line ≡ b → (is_head me line ≡ true) × (n ≡ record_of (fresh me (mask_in line)))
+      go true q = let told = rw q at e in (q, ap (λ (x : ReplayedTold). x.state) told)
+      go false q = let told = rw q at e in absurd (omega (arith, ap (λ (x : ReplayedTold). x.refusal) told))
 
-  pub mask-some : {mask : ℕ} → x ≡ Ok mask → (is_head me s ≡ true) × (mask ≡ mask_in s)
-  mask-some {mask} w = go (is_head me s) refl
+  pub unheaded : (why : Refusal) → Heads me line (Err why) → is_head me line ≡ false
+  unfolding heading
+  unheaded why e = go (is_head me line) refl
     where
-      go : (b : Bool) → is_head me s ≡ b → (is_head me s ≡ true) × (mask ≡ mask_in s)
-      go true q = let is : x ≡ Ok (mask_in s) = e ∙ rw (f, q) refl in (q, cc)
-      go false q = let is : x ≡ Err none = e ∙ rw (f, q) refl in absurd (true≢false (ap is_ok (sym w ∙ is)))
+      go : (b : Bool) → is_head me line ≡ b → is_head me line ≡ false
+      go true q = let told = rw q at e in absurd (not_0 why (ap (λ (x : ReplayedTold). x.refusal) told))
+      go false q = q
 
 -- ---- a line
 
