@@ -1,5 +1,6 @@
 -- A frame read and written, for callers in C and Rust. Assumes nothing.
 use Rattle.std.specs.Prelude.{ℕ, ◌≡◌, cond, List}
+use Rattle.frames.specs.Refusal.{code}
 use Rattle.frames.specs.Fields.{fields_of}
 use Rattle.frames.specs.Reading.{Reading, frame, refused, reading}
 use Rattle.frames.specs.Writing.{written}
@@ -28,7 +29,7 @@ pub record WroteFlat : Type 0 where
 
 unfoldable pub write_flat : List ℕ → List ℕ → WroteFlat
 write_flat n room =
-    cond (in_range n) (record { refusal = (written (fields_in n) room).answer.refusal; room = (written (fields_in n) room).room })
+    cond (in_range n) (record { refusal = code (written (fields_in n) room).answer; room = (written (fields_in n) room).room })
     (record { refusal = 1; room = room })
 
 abbrev pub Writes : (n room : List ℕ) → ℕ → (room' : List ℕ) → Type 0

@@ -89,14 +89,14 @@ pub opens-flat : (me : ℕ) (text n terms orders sizes : List ℕ) (o : Result O
 unfolding journal_opens
 opens-flat me text n terms orders sizes o e s = rw (← e, s.number, s.numbers, s.lengths)
 
-module _ (text n terms orders : List ℕ) {fits : Bool} (t : fits ≡ box_range n) where
+module _ (text n terms orders : List ℕ) where
   -- numbers that do not fit are no record
-  pub replays-none : not fits ≡ true → FlatReplays text n terms orders 12 n terms orders
+  pub replays-none : box_range n ≡ false → FlatReplays text n terms orders 12 n terms orders
   unfolding journal_replays
-  replays-none h = rw (sym t ∙ not-true fits h)
+  replays-none h = rw h
 
-  pub replays-flat : {r : ℕ} {n' terms' orders' : List ℕ} → not fits ≡ false → (b : Record) (o : Result Record Refusal) → b ≡ box_in n
+  pub replays-flat : {r : ℕ} {n' terms' orders' : List ℕ} → box_range n ≡ true → (b : Record) (o : Result Record Refusal) → b ≡ box_in n
       → Replays b text terms orders o terms' orders' → StoresReplay o n r n' → FlatReplays text n terms orders r n' terms' orders'
   unfolding journal_replays
-  replays-flat h b (Ok next) i e s = rw (sym t ∙ not-false fits h, ← i, ← e, s.number, s.numbers)
-  replays-flat h b (Err why) i e s = rw (sym t ∙ not-false fits h, ← i, ← e, s.number, s.numbers, refused why)
+  replays-flat h b (Ok next) i e s = rw (h, ← i, ← e, s.number, s.numbers)
+  replays-flat h b (Err why) i e s = rw (h, ← i, ← e, s.number, s.numbers, refused why)

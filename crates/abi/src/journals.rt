@@ -1,7 +1,7 @@
 // Opening a journal for C and Rust: a box goes as its 22 numbers.
 ghost use Rattle.abi.specs.Journals.{StoresOpen, FlatOpens, StoresReplay, FlatReplays};
 
-use flat::{box_in, box_range, put_box};
+use flat::{box_in, put_box};
 use frames::Refusal;
 use opening::{Opened, Unopened};
 use record::Record;
@@ -66,10 +66,9 @@ pub extern "C" fn journal_replay(
     ensures { FlatReplays text.now n.old terms.old orders.old result
         n.new terms.new orders.new }
 {
-    if !box_range(n) {
-        return 12;
-    }
-    let state = box_in(n);
+    let Some(state) = box_in(n) else {
+        return Refusal::BadRecord.number();
+    };
     let replayed = opening::replay(state, text, terms, orders);
     put_replayed(n, replayed)
 }

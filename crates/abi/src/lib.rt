@@ -9,7 +9,8 @@ mod orders;
 ghost use Rattle.abi.specs.Frames.{Reads, Writes};
 
 pub use boxes::{box_handed_out, box_order, box_prompt, box_receive, box_start, box_timeout};
-use flat::{fields_in, in_range, put_flat};
+use flat::{fields_in, put_flat};
+use frames::Refusal;
 pub use journals::{journal_open, journal_replay};
 pub use orders::{order_from_bytes, order_to_bytes};
 
@@ -18,14 +19,13 @@ pub use orders::{order_from_bytes, order_to_bytes};
 pub extern "C" fn frame_read(text: &[u8], numbers: &mut [u64; 17]) -> u8
     ensures { Reads text.now numbers.old result numbers.new }
 {
-    let parsed = frame_reader::read(text);
-    let refusal = parsed.refusal;
-    if refusal == 0 {
-        let f = parsed.fields;
-        put_flat(numbers, f);
-        return 0;
+    match frame_reader::read(text) {
+        Ok(f) => {
+            put_flat(numbers, f);
+            0
+        }
+        Err(refusal) => refusal.number(),
     }
-    1
 }
 
 // frame_writer::write of the fields that the numbers are: 0, 1 or 5.
@@ -33,10 +33,11 @@ pub extern "C" fn frame_read(text: &[u8], numbers: &mut [u64; 17]) -> u8
 pub extern "C" fn frame_write(numbers: &[u64; 17], room: &mut [u8]) -> u8
     ensures { Writes numbers.now room.old result room.new }
 {
-    if !in_range(numbers) {
-        return 1;
+    let Some(f) = fields_in(numbers) else {
+        return Refusal::NotAFrame.number();
+    };
+    match frame_writer::write(room, f) {
+        Ok(_) => 0,
+        Err(refusal) => refusal.number(),
     }
-    let f = fields_in(numbers);
-    let written = frame_writer::write(room, f);
-    written.refusal
 }

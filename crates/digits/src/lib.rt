@@ -36,7 +36,7 @@ pub fn all_digits(s: &[u8]) -> bool
     ok
 }
 
-// The number of a digit character.
+// The number of a digit character, with no branch.
 fn worth(c: u8) -> u8
     requires { is_digit c ≡ true }
     ensures { result ≡ worth c }

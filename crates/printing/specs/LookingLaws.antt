@@ -22,7 +22,7 @@ numbered-most : (n behind : ℕ) → length (numbered n behind) ≤ 21
 unfolding numbered decimal
 numbered-most n behind = omega (arith, length-append (decimal_in 20 n) (behind ∷ []), decimal-long 20 n)
 
-pub numbered-put : (d : List ℕ) {d₁ : List ℕ} (at n behind : ℕ) {end : ℕ} → at + 21 ≤ length d → Puts d at (decimal_in 20 n) end d₁
+pub numbered-put : (d : List ℕ) {d₁ : List ℕ} (at n behind : ℕ) {end : ℕ} → at + 21 ≤ length d → Puts d at (decimal n) end d₁
     → Puts d at (numbered n behind) (end + 1) (set d₁ end behind)
 unfolding numbered decimal
 numbered-put d at n behind h p = put-behind behind (omega (arith, p.behind, decimal-long 20 n)) p

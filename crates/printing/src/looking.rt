@@ -30,7 +30,7 @@ fn put_number(room: &mut [u8], at: usize, n: u64, behind: u8) -> usize
     ensures puts { Puts room.old at (numbered n behind) result room.new }
     ensures upper_bound { result ≤ at + 21 }
 {
-    let end = put_decimal(room, at, n, 20);
+    let end = put_decimal(room, at, n);
     room[end] = behind;
     end + 1
 }

@@ -3,10 +3,8 @@ use Rattle.frames.specs.Reading.{reading}
 use Rattle.abi.specs.FrameLaws.{read-numbers, read-nothing}
 use Rattle.abi.proofs.frame_read.Goals as goal
 
-pub returns-then-refusal-eq0 : goal.returns-then-refusal-eq0
-returns-then-refusal-eq0 c =
-    read-numbers (reading c.args.text.now) c.read-parsed.result c.args.numbers.now c.read-parsed.ensures c.if-refusal-eq0.true c.put_flat.ensures
+pub returns-in-Ok : goal.returns-in-Ok
+returns-in-Ok c = read-numbers (reading c.args.text.now) c.in-Ok.f c.args.numbers.now c.in-Ok.ensures c.put_flat.ensures
 
-pub returns : goal.returns
-returns c =
-    read-nothing (reading c.args.text.now) c.read-parsed.result c.args.numbers.now c.read-parsed.ensures c.if-refusal-eq0.false
+pub returns-in-Err : goal.returns-in-Err
+returns-in-Err c = rw c.number.ensures (read-nothing (reading c.args.text.now) c.in-Err.refusal c.args.numbers.now c.in-Err.ensures)

@@ -1,14 +1,16 @@
 -- 12 where a number does not fit; otherwise the line's answer, stored.
-use mathlib.Core.Bool.{not}
-use mathlib.Core.Path.{ap}
+use Rattle.flat.specs.Box.{box_range, box_in}
+use Rattle.flat.specs.Taken.{taken, not_taken}
 use Rattle.abi.specs.Journals.{replays-none, replays-flat}
 use Rattle.abi.proofs.journals.journal_replay.Goals as goal
 
-pub returns-then-not-box_range : goal.returns-then-not-box_range
-returns-then-not-box_range c =
-    replays-none c.args.text.now c.args.n.now c.args.terms.now c.args.orders.now c.box_range.ensures (ap not c.if-not-box_range.true)
+pub returns-in_default : goal.returns-in_default
+returns-in_default c =
+    let no-box = not_taken (box_range c.args.n.now) (box_in c.args.n.now) c.in_default.ensures in
+    rw c.number.ensures (replays-none c.args.text.now c.args.n.now c.args.terms.now c.args.orders.now no-box)
 
 pub returns : goal.returns
 returns c =
-    replays-flat c.args.text.now c.args.n.now c.args.terms.now c.args.orders.now c.box_range.ensures (ap not c.if-not-box_range.false)
-    c.box_in-state.result c.replay-replayed.result c.box_in-state.ensures c.replay-replayed.ensures c.put_replayed.ensures
+    let box = taken (box_range c.args.n.now) (box_in c.args.n.now) c.in-Some.ensures in
+    replays-flat c.args.text.now c.args.n.now c.args.terms.now c.args.orders.now box.0
+    c.in-Some.state c.replay-replayed.result box.1 c.replay-replayed.ensures c.put_replayed.ensures

@@ -1,0 +1,12 @@
+-- The library's decimal is the definition's (`library-decimal`).
+use mathlib.Core.Path.{ap, ◌∙◌}
+use Prim.Native.Nat.{◌+◌}
+use lib.ListN.{length}
+use Rattle.digits.specs.Room.{over}
+use Rattle.printing.specs.TextLaws.{library-decimal}
+use Rattle.printing.proofs.putting.put_decimal.Goals as goal
+
+pub returns-clause-puts : goal.returns-clause-puts
+returns-clause-puts c =
+    let text = c.as_bytes-text.ensures.value ∙ c.format.ensures.text ∙ library-decimal c.args.n c.ranges.n.fits in
+    record { behind = ap (λ s. c.args.at + length s) text; holds = c.put.ensures ∙ ap (λ s. over c.args.room.now c.args.at s) text }
