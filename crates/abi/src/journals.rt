@@ -26,6 +26,7 @@ fn put_opened(n: &mut [u64; 22], sizes: &mut [u64; 2], o: Result<Opened, Unopene
 }
 
 // Opens a whole journal.
+#[tactic(auto, unfolding(crate::specs::Journals::journal_opens))]
 #[unsafe(no_mangle)]
 pub extern "C" fn journal_open(
     me: u8,
@@ -56,6 +57,7 @@ fn put_replayed(n: &mut [u64; 22], o: Result<Record, Refusal>) -> u8
 }
 
 // Replays one whole line, with its line feed, over the record that the numbers are; 12 where one does not fit its field.
+#[tactic(auto, unfolding(crate::specs::Journals::journal_replays))]
 #[unsafe(no_mangle)]
 pub extern "C" fn journal_replay(
     text: &[u8],

@@ -6,14 +6,12 @@ use Rattle.std.proofs.Math.Bool.{true, false}
 use Rattle.std.proofs.Math.ListN.{length, length-take}
 use Rattle.frames.specs.Limits.{log_limit}
 use Rattle.frames.specs.declared.refusal.Refusal.{Refusal}
-use Rattle.frames.specs.declared.refusal.Refusal.TheVariants.{NoHead}
 use Rattle.frames.specs.RefusalLaws.{refused}
 use Rattle.text.specs.Lines.{first_line}
 use Rattle.text.specs.LinesLaws.{first-most, end_inside}
 use Rattle.raft.specs.Record.{fresh}
 use Rattle.record.specs.declared.Record.{Record}
-use Rattle.record.specs.Calls.{record_of}
-use Rattle.journal.specs.Lines.{lines, mask_in}
+use Rattle.journal.specs.Lines.{lines}
 use Rattle.journal.specs.Opening.{is_head}
 use Rattle.opening.specs.Calls.{ReplayedTold, Replays, heading, Heads, Blocks, stopped, replay_each, replaying_lines, ReplaysLines}
 use Rattle.opening.specs.ToldLaws.{not_0}
@@ -21,16 +19,7 @@ use Rattle.opening.specs.ReplayCode.{line-goes, broken-number, broken-leaves, li
 
 -- ---- the head
 
-module _ (me : ℕ) (line : List ℕ) where
-  pub no_head : is_head me line ≡ false → Heads me line (Err NoHead)
-  unfolding heading
-  no_head q = rw q
-
-  pub a-head : {mask : ℕ} → is_head me line ≡ true → mask ≡ mask_in line → {n : Record} → n ≡ record_of (fresh me mask) → Heads me line (Ok n)
-  unfolding heading
-  a-head q m {n} e = rw (q, e, m)
-
--- its log fits
+-- Its record's log fits,
 pub heading-fits : (me : ℕ) (line : List ℕ) → (heading me line).state.last ≤ log_limit
 unfolding heading fresh
 heading-fits me line = go (is_head me line) refl
@@ -39,6 +28,7 @@ heading-fits me line = go (is_head me line) refl
     go true e = rw e (omega arith)
     go false e = rw e (omega arith)
 
+-- and so does that of the answer.
 pub head-fits : (me : ℕ) (line : List ℕ) (n : Record) → Heads me line (Ok n) → n.last ≤ log_limit
 head-fits me line n e = let last = ap (λ (x : ReplayedTold). x.state.last) e in omega (arith, last, heading-fits me line)
 

@@ -44,7 +44,10 @@ module _ (me : ℕ) (bytes : List ℕ) {end : ℕ} (e : end ≡ 0 + first_line (
           rw ((lines_next bytes 0 (omega arith) (eqb-false (first_line bytes) 0 p)).0, ← zero-add (first_line bytes), ← e, q)
 
   -- a head, and the lines behind it
-  module _ {mask : ℕ} (is : is_head me (take end bytes) ≡ true) (masked : mask ≡ mask_in (take end bytes)) where
+  module _ (is : is_head me (take end bytes) ≡ true) where
+    abbrev mask : ℕ
+    mask = mask_in (take end bytes)
+
     nine : length (take end bytes) ≡ 9
     unfolding is_head
     nine =
@@ -56,7 +59,7 @@ module _ (me : ℕ) (bytes : List ℕ) {end : ℕ} (e : end ≡ 0 + first_line (
 
     open_head : opening me bytes ≡ replay (end + whole_bytes (drop end bytes)) (fresh me mask) 2 (lines (drop end bytes))
     unfolding opening open_lines
-    open_head = rw (all_lines, all-bytes, is, ← masked)
+    open_head = rw (all_lines, all-bytes, is)
       where
         here : first_line bytes ≡ end
         here = omega (arith, e)

@@ -50,10 +50,6 @@ module _ (b : Record) (bytes terms orders : List ℕ) where
   s = state_of b terms orders
 
   -- A line that breaks a rule is answered so, and all is as it was.
-  pub replay_unshaped : line_shaped bytes ≡ false → Replays b bytes terms orders (Err BadLine) terms orders
-  unfolding replaying replaying_by replayed
-  replay_unshaped h = rw h
-
   pub replay-refused : allows s (line_in bytes) ≡ false → Replays b bytes terms orders (Err BadLine) terms orders
   unfolding replaying replaying_by replayed
   replay-refused h = rw (h, and-false (line_shaped bytes))

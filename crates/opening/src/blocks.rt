@@ -1,4 +1,5 @@
-// A journal piece by piece: its head, and over a record of fixed size its lines, one alone or the whole lines of a block.
+// A journal piece by piece: its head, and over a record of fixed size its lines, one alone or the whole lines of a block. The log is lent as C lends it: its
+// terms and its orders, apart.
 ghost use Rattle.std.specs.Prelude.{◌+◌, ◌≤◌};
 ghost use Rattle.frames.specs.Limits.{log_limit};
 ghost use Rattle.opening.specs.Calls.{Heads, Advances, Replays, ReplaysLines};
@@ -11,6 +12,7 @@ use record::Record;
 use text::line_end;
 
 // The head alone: the fresh record of the box asked for.
+#[tactic(auto, unfolding(crate::specs::Calls::heading))]
 pub fn replay_head(me: u8, line: &[u8]) -> Result<Record, Refusal>
     ensures { Heads me line.now result }
 {
@@ -19,6 +21,7 @@ pub fn replay_head(me: u8, line: &[u8]) -> Result<Record, Refusal>
 }
 
 // The record with a line replayed: a follower, commit 0.
+#[tactic(auto, unfolding(raft::specs::Append::following, journal::specs::Opening::restarted))]
 fn after(n: Record, l: LineFields) -> Record
     requires { l.kept + l.count ≤ log_limit }
     ensures { Advances n l result }
@@ -32,6 +35,7 @@ fn after(n: Record, l: LineFields) -> Record
 }
 
 // One whole line, with its line feed, over any record.
+#[tactic(auto, unfolding(crate::specs::Calls::replaying, crate::specs::Calls::replaying_by, journal::specs::Opening::replayed, journal::specs::Lines::line_shaped, journal::specs::Lines::count_in, frames::specs::Reading::is_line))]
 pub fn replay(
     n: Record,
     line: &[u8],
@@ -59,7 +63,8 @@ pub fn replay(
     Ok(after(n, l))
 }
 
-// The whole lines of some bytes over a record, up to the first that breaks a rule.
+// The whole lines of some bytes over a record, up to the first that breaks a rule. (A loop from line end to line end, with the lines and bytes so far: the
+// answer is these, also where it stops, and a `for` over the lines is no plainer.)
 pub fn replay_lines(
     n: Record,
     bytes: &[u8],

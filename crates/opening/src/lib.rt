@@ -15,7 +15,8 @@ pub use lines::is_head_shaped;
 use record::Record;
 pub use whole::open;
 
-// What a journal line tells: "01, 10, box, term 4, vote 1, kept 2, count 1, entries".
+// What a journal line tells: "01, 10, box, term 4, vote 1, kept 2, count 1, entries". The count says how many of the array are entries, as in a frame's
+// `Fields`: the memory is fixed.
 #[derive(Clone, Copy)]
 pub struct LineFields {
     pub who: u8,

@@ -1,4 +1,6 @@
-// A journal's lines: their form, their fields, and the rules that one keeps behind the record so far.
+// A journal's lines: their form, their fields, and the rules that one keeps behind the record so far. The form is a definition, which its proof may open.
+#![tactic(auto, unfolding(journal::specs::Opening::is_head, journal::specs::Lines::head_shaped, journal::specs::Lines::line_shaped, journal::specs::Lines::box_in, journal::specs::Lines::mask_in, journal::specs::Lines::count_in, frames::specs::Reading::is_line, frames::specs::Reading::version, frames::specs::Reading::kind))]
+
 ghost use Rattle.std.specs.Prelude.{◌≡◌, cond, List, ℕ, ◌≤◌, Some, None};
 ghost use Rattle.frames.specs.Limits.{entry_limit};
 ghost use Rattle.record.specs.Calls.{state_of};

@@ -1,8 +1,7 @@
 // Opening: the head, and the lines behind it as one block. The log is made aside and handed over only when every line was good.
 ghost use Rattle.opening.specs.Calls.{Opens};
 
-use crate::blocks::replay_lines;
-use crate::lines::head_mask;
+use crate::blocks::{replay_head, replay_lines};
 use crate::{Opened, Unopened};
 use record::Record;
 use text::line_end;
@@ -17,10 +16,11 @@ pub fn open(
     ensures { Opens me bytes.now terms.old orders.old result terms.new orders.new }
 {
     let head = line_end(bytes, 0);
-    let mask = head_mask(me, &bytes[..head]).ok_or(Unopened::NoHead)?;
+    let Ok(start) = replay_head(me, &bytes[..head]) else {
+        return Err(Unopened::NoHead);
+    };
     let mut terms_made = [0u32; Record::LOG];
     let mut orders_made = [0u64; Record::LOG];
-    let start = Record::fresh(me, mask);
     let behind = replay_lines(start, &bytes[head..], &mut terms_made, &mut orders_made);
     // "the first such line's number, the head being 1"
     let Ok(()) = behind.end else {

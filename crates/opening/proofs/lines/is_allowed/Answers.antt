@@ -10,11 +10,6 @@ returns-then-not-allows_numbers c =
     let broken = sym c.allows_numbers.ensures ∙ c.if-not-allows_numbers.true in
     λ orders. sym (rw (allows-by c.args.n c.args.l c.args.terms.now orders, broken))
 
-pub term_at-requires : goal.term_at-requires
-term_at-requires c =
-    let kept = numbers c.args.n c.args.l (sym c.allows_numbers.ensures ∙ c.if-not-allows_numbers.false) in
-    omega (arith, kept.room, c.requires.terms_long)
-
 pub returns : goal.returns
 returns c =
     let hold = sym c.allows_numbers.ensures ∙ c.if-not-allows_numbers.false in
