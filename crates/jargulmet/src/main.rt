@@ -15,7 +15,7 @@ struct Block {
     consumed: usize,
 }
 
-// Answers the whole lines of a block, and prints the answers.
+// Answers the whole lines of a block, and prints the answers, until no line is taken. A failed write ends it.
 fn answer_all<W: Write>(
     stdout: &mut W,
     n: Record,
@@ -99,7 +99,7 @@ fn run<R: Read, W: Write>(
     later_lines(stdin, stdout, state, input, first, output)
 }
 
-// A write that fails ends the run, and nothing tells of it.
+// What cannot be written ends the run, and nothing tells of it.
 fn main(rt: HostRuntime) {
     let mut input = [0u8; 65536];
     let mut output = [0u8; 65536];

@@ -12,7 +12,8 @@ use record::Record;
 use std::io;
 use std::io::{Read, Write};
 
-// The lines behind the head: those in the block already, then what is read. "the first such line's number, the head being 1"
+// The lines behind the head: those in the block already, then what is read. "the first such line's number, the head being 1". (The sums wrap: no contract
+// says that what is read ends before they do.)
 fn later_lines<R: Read>(
     stdin: &mut R,
     n: Record,
@@ -68,7 +69,7 @@ fn open<R: Read>(
     later_lines(stdin, state, input, head, terms, orders)
 }
 
-// Prints why there is no record.
+// Prints why there is no record: the refusal's number, and that of a bad line. (The numbers stand in the text: as `{number}` each would be a write of its own.)
 fn refuse<W: Write>(stdout: &mut W, why: Unopened) -> io::Result<()> {
     match why {
         Unopened::NoHead => stdout.write_all(b"n11\n"),
