@@ -31,14 +31,14 @@ fn is_headed(s: &[u8], kind: u8) -> bool
 }
 
 // Only an append has a count, behind its commit.
+#[tactic(auto, unfolding(frames::specs::Reading::count, frames::specs::Reading::size))]
 fn count(s: &[u8], kind: u8) -> u8
     requires { FixedOf s.now kind }
     ensures { result ≡ reading.count s.now }
 {
-    if kind == Fields::APPEND {
-        digits::get(s, 32)
-    } else {
-        0
+    match kind {
+        Fields::APPEND => digits::get(s, 32),
+        _ => 0,
     }
 }
 
