@@ -12,6 +12,7 @@ ghost use Rattle.frame_reader.specs.Known.{LineOf, FixedOf, KindOf, EntriesIn, E
 use frames::{Entry, Fields, Refusal, obeys, size, text_size};
 
 // Digits, ended by one line feed, and nothing after it. (An inside call: lines of text and of the journal are looked at by it too.)
+#[tactic(auto, using(frames::proofs::ReadingLaws::steps))]
 pub fn is_line(s: &[u8]) -> bool
     ensures { result ≡ reading.is_line s.now }
 {
@@ -43,6 +44,7 @@ fn count(s: &[u8], kind: u8) -> u8
 }
 
 // As long as its kind and count tell, with at most four entries.
+#[tactic(auto, using(frames::proofs::ReadingLaws::steps))]
 fn is_long(s: &[u8], kind: u8) -> bool
     requires { KindOf s.now kind }
     ensures { result ≡ is_long s.now }
@@ -115,6 +117,7 @@ fn append_answer(s: &[u8]) -> Fields
 }
 
 // The entry at a place of the four: what stands there, or none past the count.
+#[tactic(auto, using(frames::proofs::ReadingLaws::steps), unfolding(frames::specs::Reading::entry_at))]
 fn entry(s: &[u8], from: usize, at: usize, count: u8) -> Entry
     requires { EntryIn s.now from at count }
     ensures { result ≡ get_or (reading.entries_at s.now from count) at no_entry }
@@ -143,6 +146,7 @@ pub fn entries(s: &[u8], from: usize, count: u8) -> [Entry; Fields::ENTRIES]
 }
 
 // The fields of an append, and as many entries as it counts.
+#[tactic(auto, using(frames::proofs::ReadingLaws::steps), unfolding(frames::specs::Fields::fields_of, frames::specs::Reading::append_in))]
 fn append(s: &[u8]) -> Fields
     requires { 34 + 24 * field s.now 32 1 ≤ run s.now }
     ensures { result ≡ fields_of (reading.append_in s.now) }
