@@ -57,6 +57,7 @@ fn is_long(s: &[u8], kind: u8) -> bool
 }
 
 // The form of a frame, with at most four entries.
+#[tactic(auto, using(frames::proofs::ReadingLaws::steps), unfolding(frames::specs::Reading::readable, frames::specs::Reading::shaped, frames::specs::Reading::is_headed, frames::specs::Reading::kind))]
 fn is_readable(s: &[u8]) -> bool
     ensures { result ≡ reading.readable s.now }
 {
@@ -168,7 +169,7 @@ fn append(s: &[u8]) -> Fields
 }
 
 // The fields of the kind. (Each arm returns by itself: where they meet in one value it is taken apart and put together again, 3 ns more.)
-#[tactic(auto, unfolding(frames::specs::Reading::message_in, frames::specs::Reading::kind, frames::specs::Message::by_kind))]
+#[tactic(auto, using(frames::proofs::ReadingLaws::steps), unfolding(frames::specs::Reading::message_in, frames::specs::Reading::kind, frames::specs::Message::by_kind))]
 fn fields(s: &[u8]) -> Fields
     requires { reading.readable s.now ≡ true }
     ensures { result ≡ fields_of (reading.message_in s.now) }
@@ -182,6 +183,7 @@ fn fields(s: &[u8]) -> Fields
 }
 
 // The message that the bytes are, or `NotAFrame` exactly when they are not one frame.
+#[tactic(auto, using(frames::proofs::ReadingLaws::steps), unfolding(frames::specs::Fields::answer))]
 pub fn read(s: &[u8]) -> Result<Fields, Refusal>
     ensures { result ≡ answer (reading.reading s.now) }
 {
