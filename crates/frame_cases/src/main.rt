@@ -1,132 +1,85 @@
 // Reads cases from standard input, each ended by `;`, hands each to the frame reader, and prints what it got: `n1`, or the
 // fields in decimal (entries as their 24 digits), and on the next line the frame that the writer makes of them.
+// What cannot be written is passed over: whoever compares the output sees it.
 #![tactic(auto)]
 
 ghost use Rattle.std.specs.Prelude.{◌≤◌, length};
 
-use frames::{Entry, Fields};
+use frames::{Entry, Fields, Refusal};
 use std::io::{Read, Write};
 
-// What cannot be written is passed over: whoever compares the output sees it.
-fn put<W: Write>(out: &mut W, text: &[u8]) {
-    let _ = out.write_all(text);
-}
-
-fn decimal<W: Write>(out: &mut W, n: u64) {
-    let _ = write!(out, "{n}");
-}
-
-fn space<W: Write>(out: &mut W) {
-    put(out, b" ");
-}
-
-fn number<W: Write>(out: &mut W, n: u64) {
-    space(out);
-    decimal(out, n);
-}
-
-// The entry's 24 digits, where it is one of those counted.
-fn entry<W: Write>(out: &mut W, e: Entry, at: u8, count: u8) {
-    if at < count {
-        let term = e.term;
-        let order = e.order;
-        space(out);
-        let _ = write!(out, "{term:08x}{order:016x}");
-    }
-}
-
-fn start<W: Write>(out: &mut W, f: Fields) {
-    decimal(out, f.kind as u64);
-    number(out, f.from as u64);
-    number(out, f.to as u64);
-    number(out, f.term as u64);
-}
-
-fn append<W: Write>(out: &mut W, f: Fields) {
-    let count = f.count;
-    number(out, f.index as u64);
-    number(out, f.prior as u64);
-    number(out, f.commit as u64);
-    number(out, count as u64);
-    entry(out, f.entries[0], 0, count);
-    entry(out, f.entries[1], 1, count);
-    entry(out, f.entries[2], 2, count);
-    entry(out, f.entries[3], 3, count);
+// The entry's 24 digits.
+fn entry<W: Write>(out: &mut W, e: &Entry) {
+    let term = e.term;
+    let order = e.order;
+    let _ = write!(out, " {term:08x}{order:016x}");
 }
 
 fn fields<W: Write>(out: &mut W, f: Fields) {
-    let kind = f.kind;
-    start(out, f);
-    if kind == 1 {
-        number(out, f.index as u64);
-        number(out, f.prior as u64);
-        return;
+    let Fields {
+        kind,
+        from,
+        to,
+        term,
+        index,
+        prior,
+        commit,
+        reply,
+        count,
+        entries,
+    } = f;
+    let _ = write!(out, "{kind} {from} {to} {term}");
+    match kind {
+        Fields::VOTE_REQUEST => {
+            let _ = write!(out, " {index} {prior}");
+        }
+        Fields::VOTE_ANSWER => {
+            let _ = write!(out, " {reply}");
+        }
+        Fields::APPEND => {
+            let _ = write!(out, " {index} {prior} {commit} {count}");
+            for e in entries.iter().take(count as usize) {
+                entry(out, e);
+            }
+        }
+        _ => {
+            let _ = write!(out, " {reply} {index}");
+        }
     }
-    if kind == 2 {
-        number(out, f.reply as u64);
-        return;
-    }
-    if kind == 3 {
-        append(out, f);
-        return;
-    }
-    number(out, f.reply as u64);
-    number(out, f.index as u64);
+    let _ = writeln!(out);
 }
 
-// What the writer makes of the fields, and the number of its refusal where it makes none.
+fn refused<W: Write>(out: &mut W, refusal: Refusal) {
+    let number = refusal.number();
+    let _ = writeln!(out, "n{number}");
+}
+
+// What the writer makes of the fields.
 fn frame<W: Write>(out: &mut W, f: Fields) {
     let mut room = [0u8; 256];
-    let written = frame_writer::write(&mut room, f);
-    let bytes = written.bytes;
-    if written.refusal == 0 {
-        if bytes <= 256 {
-            put(out, &room[..bytes]);
+    match frame_writer::write(&mut room, f) {
+        Ok(bytes) => {
+            let _ = out.write_all(&room[..bytes]);
         }
-        return;
+        Err(refusal) => refused(out, refusal),
     }
-    put(out, b"n");
-    decimal(out, written.refusal as u64);
-    put(out, b"\n");
 }
 
 fn show<W: Write>(out: &mut W, case: &[u8]) {
-    let parsed = frame_reader::read(case);
-    if parsed.refusal == 0 {
-        let f = parsed.fields;
-        fields(out, f);
-        put(out, b"\n");
-        frame(out, f);
-        return;
-    }
-    put(out, b"n");
-    decimal(out, parsed.refusal as u64);
-    put(out, b"\n");
-}
-
-// Where the case that starts at a place ends, or the end where none does.
-fn case_end(s: &[u8], from: usize) -> usize
-    requires { from ≤ length s.now }
-    ensures { (from ≤ result) × (result ≤ length s.now) }
-{
-    let mut i = from;
-    while i < s.len() {
-        if s[i] == b';' {
-            return i;
+    match frame_reader::read(case) {
+        Ok(f) => {
+            fields(out, f);
+            frame(out, f);
         }
-        i += 1;
+        Err(refusal) => refused(out, refusal),
     }
-    i
 }
 
 fn show_all<W: Write>(out: &mut W, s: &[u8]) {
-    let mut from = 0;
-    while from < s.len() {
-        let end = case_end(s, from);
-        if end < s.len() {
-            show(out, &s[from..end]);
+    for ended in s.split_inclusive(|c| *c == b';') {
+        if let Some(case) = ended.strip_suffix(b";") {
+            show(out, case);
         }
-        from = end + 1;
     }
 }
 
@@ -135,7 +88,7 @@ fn read_full<R: Read>(input: &mut R, room: &mut [u8]) -> usize
     ensures { result ≤ length room.old }
 {
     let mut filled = 0;
-    while filled < room.len() {
+    for _ in 0..room.len() {
         let got = input.read(&mut room[filled..]).unwrap_or(0);
         if got == 0 {
             break;

@@ -12,6 +12,7 @@ ghost use Rattle.frame_reader.specs.Known.{LineOf, FixedOf, KindOf, EntriesIn, E
 use frames::{Entry, Fields, Refusal, obeys, size, text_size};
 
 // Digits, ended by one line feed, and nothing after it. (An inside call: lines of text and of the journal are looked at by it too.)
+#[tactic(auto, using(frames::proofs::ReadingLaws::steps))]
 pub fn is_line(s: &[u8]) -> bool
     ensures { result ≡ reading.is_line s.now }
 {
@@ -31,18 +32,19 @@ fn is_headed(s: &[u8], kind: u8) -> bool
 }
 
 // Only an append has a count, behind its commit.
+#[tactic(auto, unfolding(frames::specs::Reading::count, frames::specs::Reading::size))]
 fn count(s: &[u8], kind: u8) -> u8
     requires { FixedOf s.now kind }
     ensures { result ≡ reading.count s.now }
 {
-    if kind == Fields::APPEND {
-        digits::get(s, 32)
-    } else {
-        0
+    match kind {
+        Fields::APPEND => digits::get(s, 32),
+        _ => 0,
     }
 }
 
 // As long as its kind and count tell, with at most four entries.
+#[tactic(auto, using(frames::proofs::ReadingLaws::steps))]
 fn is_long(s: &[u8], kind: u8) -> bool
     requires { KindOf s.now kind }
     ensures { result ≡ is_long s.now }
@@ -55,6 +57,7 @@ fn is_long(s: &[u8], kind: u8) -> bool
 }
 
 // The form of a frame, with at most four entries.
+#[tactic(auto, using(frames::proofs::ReadingLaws::steps), unfolding(frames::specs::Reading::readable, frames::specs::Reading::shaped, frames::specs::Reading::is_headed, frames::specs::Reading::kind))]
 fn is_readable(s: &[u8]) -> bool
     ensures { result ≡ reading.readable s.now }
 {
@@ -115,6 +118,7 @@ fn append_answer(s: &[u8]) -> Fields
 }
 
 // The entry at a place of the four: what stands there, or none past the count.
+#[tactic(auto, using(frames::proofs::ReadingLaws::steps), unfolding(frames::specs::Reading::entry_at))]
 fn entry(s: &[u8], from: usize, at: usize, count: u8) -> Entry
     requires { EntryIn s.now from at count }
     ensures { result ≡ get_or (reading.entries_at s.now from count) at no_entry }
@@ -143,6 +147,7 @@ pub fn entries(s: &[u8], from: usize, count: u8) -> [Entry; Fields::ENTRIES]
 }
 
 // The fields of an append, and as many entries as it counts.
+#[tactic(auto, using(frames::proofs::ReadingLaws::steps), unfolding(frames::specs::Fields::fields_of, frames::specs::Reading::append_in))]
 fn append(s: &[u8]) -> Fields
     requires { 34 + 24 * field s.now 32 1 ≤ run s.now }
     ensures { result ≡ fields_of (reading.append_in s.now) }
@@ -164,7 +169,7 @@ fn append(s: &[u8]) -> Fields
 }
 
 // The fields of the kind. (Each arm returns by itself: where they meet in one value it is taken apart and put together again, 3 ns more.)
-#[tactic(auto, unfolding(frames::specs::Reading::message_in, frames::specs::Reading::kind, frames::specs::Message::by_kind))]
+#[tactic(auto, using(frames::proofs::ReadingLaws::steps), unfolding(frames::specs::Reading::message_in, frames::specs::Reading::kind, frames::specs::Message::by_kind))]
 fn fields(s: &[u8]) -> Fields
     requires { reading.readable s.now ≡ true }
     ensures { result ≡ fields_of (reading.message_in s.now) }
@@ -178,6 +183,7 @@ fn fields(s: &[u8]) -> Fields
 }
 
 // The message that the bytes are, or `NotAFrame` exactly when they are not one frame.
+#[tactic(auto, using(frames::proofs::ReadingLaws::steps), unfolding(frames::specs::Fields::answer))]
 pub fn read(s: &[u8]) -> Result<Fields, Refusal>
     ensures { result ≡ answer (reading.reading s.now) }
 {

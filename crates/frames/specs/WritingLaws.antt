@@ -1,5 +1,5 @@
 -- What is proved of writing: fields one behind the other, the line feed, and how long a frame is. Assumes nothing.
-use Rattle.std.specs.Prelude.{ℕ, zero, suc, ◌+◌, ◌*◌, ◌≤◌, ◌<◌, ◌≡◌, true, false, ◌&&◌, List, [], ◌∷◌, ◌++◌, leb, length, get_or, set, take, Ok, Err}
+use Rattle.std.specs.Prelude.{ℕ, zero, suc, Bool, cond, ◌+◌, ◌*◌, ◌≤◌, ◌<◌, ◌≡◌, true, false, ◌&&◌, List, [], ◌∷◌, ◌++◌, leb, length, get_or, set, take, Ok, Err}
 use Rattle.std.proofs.Common.{add-zero, zero-add, add-suc, suc-add, add-one, arith, sym, ap, ◌∙◌, append_assoc, append-nil, length-append, take-append-drop}
 use Rattle.std.proofs.Math.Path.{refl}
 use Rattle.std.proofs.lemmas.List.{take_more, length-take-le}
@@ -194,3 +194,17 @@ module _ (f : Fields) (d : List ℕ) (h : one_frame f ≡ true) where
   unfolding written
   written-whole l e w =
       rw (h, le-leb (length (text (message_of f))) (length d) (omega (arith, text-bytes f h)), e, w, text-bytes f h)
+
+-- so whoever is answered a number has room for as many
+pub written_fits : (f : Fields) (d : List ℕ) {d₁ : List ℕ} {n : ℕ} → ◌≡◌ {A = Wrote} (record { answer = Ok n; room = d₁ }) (written f d) → n ≤ length d
+unfolding written
+written_fits f d {d₁} {n} e = go (one_frame f) (leb (length (text (message_of f))) (length d)) refl _ _ _ refl refl refl e
+  where
+    go : (b l : Bool) → leb (length (text (message_of f))) (length d) ≡ l → (x y z : Wrote) → x.answer ≡ Ok (length (text (message_of f)))
+        → y.answer ≡ Err NoRoom → z.answer ≡ Err NotAFrame
+        → ◌≡◌ {A = Wrote} (record { answer = Ok n; room = d₁ }) (cond b (cond l x y) z) → n ≤ length d
+    go true true h x y z p q r e =
+        let same : n ≡ length (text (message_of f)) = cc (ap (λ (w : Wrote). w.answer) e) in
+        omega (arith, leb-true (length (text (message_of f))) (length d) h)
+    go true false h x y z p q r e = absurd (cc (ap (λ (w : Wrote). w.answer) e))
+    go false l h x y z p q r e = absurd (cc (ap (λ (w : Wrote). w.answer) e))
