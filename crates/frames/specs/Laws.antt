@@ -112,3 +112,19 @@ module _ (es : List Entry) (i last term : ℕ) where
   pub in_order_end : length es ≤ i → in_order last term (drop i es) ≡ leb last term
   unfolding in_order
   in_order_end h = rw (drop_all i es h)
+
+-- ---- the same over listed entries
+
+module _ (es : List Entry) (i n last term : ℕ) where
+  pub in_order-next-listed : i < n → follows last term (get_or es i no_entry).term ≡ true
+      → in_order last term (listed es i (n - i)) ≡ in_order (get_or es i no_entry).term term (listed es (i + 1) (n - (i + 1)))
+  unfolding in_order
+  in_order-next-listed h f = rw (listed_next es i n h, f)
+
+  pub in_order-broken-listed : i < n → follows last term (get_or es i no_entry).term ≡ false → in_order last term (listed es i (n - i)) ≡ false
+  unfolding in_order
+  in_order-broken-listed h f = rw (listed_next es i n h, f)
+
+  pub in_order_end-listed : n ≤ i → in_order last term (listed es i (n - i)) ≡ leb last term
+  unfolding in_order
+  in_order_end-listed h = rw (listed_end es i n h)

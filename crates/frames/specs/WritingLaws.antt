@@ -79,6 +79,10 @@ unfolding listed
 listed_suc es at zero = rw add-zero
 listed_suc es at (suc n) = rw (listed_suc es (suc at) n, suc-add at n, add-suc at n)
 
+-- the same, as the code counts
+pub listed_more : (es : List Entry) (n : ℕ) → listed es 0 (n + 1) ≡ listed es 0 n ++ (get_or es n no_entry ∷ [])
+listed_more es n = rw (add-one n, listed_suc es 0 n, zero-add)
+
 -- entries and entries behind them have their fields so
 pub entry_fields-append : (a b : List Entry) → entry_fields (a ++ b) ≡ entry_fields a ++ entry_fields b
 unfolding entry_fields
@@ -90,6 +94,10 @@ pub chars-entries : (es : List Entry) → chars (entry_fields es) ≡ 24 * lengt
 unfolding entry_fields
 chars-entries [] = refl
 chars-entries (e ∷ es) = omega (arith, chars-entries es)
+
+-- and so for the entries up to a place
+pub chars-listed : (es : List Entry) (n : ℕ) → chars (entry_fields (listed es 0 n)) ≡ 24 * n
+chars-listed es n = rw (chars-entries, length-listed)
 
 -- the entries up to a place are written: then the next
 pub put-entry-next : (d : List ℕ) {d₁ d₂ : List ℕ} (at : ℕ) (es : List Entry) (n : ℕ) → n < length es → at + 24 * length es ≤ length d
@@ -104,6 +112,17 @@ put-entry-next d {d₁} at es n i h p q =
   where
     long : chars (entry_fields (take n es)) ≡ 24 * n
     long = chars-entries (take n es) ∙ ap (λ (k : ℕ). 24 * k) (length-take-le n es (omega arith))
+
+-- the same of listed entries
+pub put-entry-listed : (d : List ℕ) {d₁ d₂ : List ℕ} (at : ℕ) (es : List Entry) (n : ℕ) → at + 24 * n + 24 ≤ length d
+    → d₁ ≡ over d at (spell (entry_fields (listed es 0 n)))
+    → d₂ ≡ over d₁ (at + 24 * n) (spell (entry_fields (get_or es n no_entry ∷ [])))
+    → d₂ ≡ over d at (spell (entry_fields (listed es 0 (n + 1))))
+put-entry-listed d {d₁} at es n h p q =
+    rw (listed_more es n, entry_fields-append (listed es 0 n) (get_or es n no_entry ∷ []))
+    (put_more d at (entry_fields (listed es 0 n)) (entry_fields (get_or es n no_entry ∷ []))
+    (omega (arith, chars-listed es n, chars-entries (get_or es n no_entry ∷ [])))
+    p (q ∙ ap (λ (k : ℕ). over d₁ (at + k) (spell (entry_fields (get_or es n no_entry ∷ [])))) (sym (chars-listed es n))))
 
 -- ---- how long a frame is
 

@@ -1,10 +1,11 @@
 -- What the code's proofs use of a record as text. Assumes nothing.
-use Rattle.std.specs.Prelude.{ℕ, ◌+◌, ◌*◌, ◌≤◌, ◌≡◌, refl, List, [], ◌∷◌, ◌++◌, length, get_or, set}
-use Rattle.std.proofs.Common.{zero-add, add-one, arith, ap, ◌∙◌, append_assoc, append-nil, length-append}
+use Rattle.std.specs.Prelude.{ℕ, ◌+◌, ◌-◌, ◌*◌, ◌≤◌, ◌≡◌, refl, true, false, ◌&&◌, Some, None, List, [], ◌∷◌, ◌++◌, eqb, leb, length, get_or, set}
+use Rattle.std.proofs.Common.{zero-add, add-one, arith, ap, ◌∙◌, append_assoc, append-nil, length-append, eqb-true, leb-true, eq-eqb, ne_eqb}
+use Rattle.digits.specs.Tests.{and_left, and_right}
 use Rattle.digits.specs.Room.{over}
 use Rattle.digits.specs.RoomLaws.{length_over}
 use Rattle.frames.specs.declared.Entry.{Entry}
-use Rattle.frames.specs.Limits.{log_limit}
+use Rattle.frames.specs.Limits.{boxes, log_limit}
 use Rattle.frames.specs.Message.{entry_fields, spell, line_feed}
 use Rattle.frames.specs.WritingLaws.{length-spell, chars-entries}
 use Rattle.raft.specs.Lent.{entries_of}
@@ -12,9 +13,41 @@ use Rattle.raft.specs.LentLaws.{length-entries_of, entries_more}
 use Rattle.record.specs.declared.Record.{Record}
 use Rattle.record.specs.Calls.{state_of}
 use Rattle.printing.specs.Text.{decimal_in, decimal}
-use Rattle.printing.specs.Looking.{space, numbered, first_shown, entry_shown, log_shown, shown}
+use Rattle.printing.specs.Looking.{asks, asked_box, space, numbered, first_shown, entry_shown, log_shown, shown}
 use Rattle.printing.specs.Putting.{shown_most, Puts}
 use Rattle.printing.specs.TextLaws.{put-behind, put_both, decimal-long}
+
+-- ---- the box asked for
+
+pub asks-long : (s : List ℕ) → (length s ≡ 2 → ⊥) → asks s ≡ false
+unfolding asks
+asks-long s h = rw (ne_eqb (length s) 2 h)
+
+pub asks-by : (s : List ℕ) → length s ≡ 2 → asks s ≡ (leb 49 (get_or s 0 0) && leb (get_or s 0 0) (48 + boxes) && eqb (get_or s 1 0) line_feed)
+unfolding asks
+asks-by s h = rw (eq-eqb (length s) 2 h)
+
+pub record Asking (s : List ℕ) : Type 0 where
+  pub long : length s ≡ 2
+  pub digit : 49 ≤ get_or s 0 0
+
+pub asks-facts : (s : List ℕ) → asks s ≡ true → Asking s
+unfolding asks
+asks-facts s h =
+    let all = and_right (eqb (length s) 2) _ h in
+    let range = and_left (leb 49 (get_or s 0 0) && leb (get_or s 0 0) (48 + boxes)) _ all in
+    record {
+      long = eqb-true (length s) 2 (and_left (eqb (length s) 2) _ h);
+      digit = leb-true 49 (get_or s 0 0) (and_left (leb 49 (get_or s 0 0)) _ range);
+    }
+
+pub asked-digit : (s : List ℕ) → asks s ≡ true → asked_box s ≡ Some (get_or s 0 0 - 48)
+unfolding asked_box
+asked-digit s h = rw h
+
+pub asked-none : (s : List ℕ) → asks s ≡ false → asked_box s ≡ None
+unfolding asked_box
+asked-none s h = rw h
 
 -- ---- numbers, one behind the other
 

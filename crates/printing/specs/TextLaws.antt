@@ -1,12 +1,12 @@
 -- What the code's proofs use of texts: one put at a place, a number's places, the line of a refusal. Assumes nothing.
 use Rattle.std.specs.Prelude.{ℕ, zero, suc, ◌+◌, ◌-◌, ◌/◌, ◌%◌, ◌^◌, ◌≤◌, ◌<◌, ◌≡◌, refl, Bool, true, false, cond, List, [], ◌∷◌, ◌++◌, ltb, length, set, take, drop}
-use Rattle.std.proofs.Common.{arith, ◌∙◌, length-append, length-drop, take_at, ltb-true, lt-ltb, pow-suc, div-lt_iff_lt-mul, ap}
+use Rattle.std.proofs.Common.{arith, ◌∙◌, length-append, length-drop, take_at, ltb-true, lt-ltb, le-ltb, pow-suc, div-lt_iff_lt-mul, ap}
 use Rattle.std.proofs.Math.Seq.{take-length}
 use Rattle.std.specs.Fmt as library
 use Rattle.std.proofs.lemmas.Bool.{ltb-false}
 use Rattle.std.proofs.lemmas.Fmt.{decimal_digit, decimal_step}
 use Rattle.digits.specs.Room.{over}
-use Rattle.digits.specs.RoomLaws.{length_over, over-over}
+use Rattle.digits.specs.RoomLaws.{length_over, over_nothing, over-over}
 use Rattle.frames.specs.Message.{line_feed}
 use Rattle.frames.specs.WritingLaws.{stored_one}
 use Rattle.printing.specs.Text.{letter_n, decimal_in, decimal, refusal_line}
@@ -17,6 +17,10 @@ pub rest-whole : (s : List ℕ) (at : ℕ) → take (length s - at) (drop at s) 
 rest-whole s at = rw (← length-drop at s) (take-length (drop at s))
 
 -- ---- a text put at a place
+
+-- all of it
+pub put_all : (s : List ℕ) (i : ℕ) → i ≡ length s → take i s ≡ s
+put_all s i e = rw e (take-length s)
 
 -- what was written at the start is read back
 pub taken_back : (d s : List ℕ) → take (length s) (over d 0 s) ≡ s
@@ -56,6 +60,33 @@ decimal-long (suc places) n = go (ltb n 10) (decimal-long places (n / 10))
         → length (cond b ((48 + n) ∷ []) (decimal_in places (n / 10) ++ ((48 + n % 10) ∷ []))) ≤ suc places
     go true h = omega arith
     go false h = rw (length-append (decimal_in places (n / 10)) ((48 + n % 10) ∷ [])) (omega (arith, h))
+
+-- no places left: nothing
+pub decimal-none : (d : List ℕ) (at places n : ℕ) → places ≡ 0 → Puts d at (decimal_in places n) at d
+unfolding decimal_in
+decimal-none d at places n e = rw e (record { behind = omega arith; holds = over_nothing d at })
+
+-- a number of one place
+one_place : (places n : ℕ) → 1 ≤ places → n < 10 → decimal_in places n ≡ (48 + n) ∷ []
+unfolding decimal_in
+one_place zero n p h = absurd (omega arith)
+one_place (suc places) n p h = rw (lt-ltb n 10 h)
+
+pub decimal-one : (d : List ℕ) (at places n : ℕ) → 1 ≤ places → n < 10 → at < length d → Puts d at (decimal_in places n) (at + 1) (set d at (48 + n))
+decimal-one d at places n p h k = rw (one_place places n p h) (record { behind = omega arith; holds = stored_one d at (48 + n) k })
+
+-- a longer one: the places of its tenth, and its last
+more_places : (places n : ℕ) → 1 ≤ places → 10 ≤ n → decimal_in places n ≡ decimal_in (places - 1) (n / 10) ++ ((48 + n % 10) ∷ [])
+unfolding decimal_in
+more_places zero n p h = absurd (omega arith)
+more_places (suc places) n p h = rw (le-ltb n 10 h, ← below)
+  where
+    below : places ≡ suc places - 1
+    below = omega arith
+
+pub decimal_more : (d : List ℕ) {d₁ : List ℕ} (at places n : ℕ) {end : ℕ} → 1 ≤ places → 10 ≤ n → end < length d
+    → Puts d at (decimal_in (places - 1) (n / 10)) end d₁ → Puts d at (decimal_in places n) (end + 1) (set d₁ end (48 + n % 10))
+decimal_more d at places n p h k e = rw (more_places places n p h) (put-behind (48 + n % 10) k e)
 
 -- The library's decimal is the definition's, where the places hold the number: digit by digit, as both are told.
 library_in : (places n : ℕ) → n < 10 ^ suc places → n < 2 ^ 64 → library.decimal n ≡ decimal_in (suc places) n

@@ -1,14 +1,15 @@
 -- What the proofs of the search and of the storing use. Assumes nothing.
-use Rattle.std.specs.Prelude.{ℕ, ◌+◌, ◌-◌, ◌≤◌, ◌<◌, ◌≡◌, refl, length, get_or, take, drop, set}
+use Rattle.std.specs.Prelude.{ℕ, suc, ◌+◌, ◌-◌, ◌≤◌, ◌<◌, ◌≡◌, refl, length, get_or, take, drop, set}
 use Rattle.std.proofs.Common.{add-one, arith, ap, ◌∙◌, drop-cons, drop_of_length-le}
 use mathlib.Core.List.{List, [], ◌∷◌, map, map-append}
 use Rattle.std.proofs.lemmas.List.{length-map, take_more, length-take-le}
 use borrow.Author.Tests.{eq-eqb, ne_eqb}
 use Rattle.digits.specs.Room.{over}
-use Rattle.digits.specs.RoomLaws.{length_over, over-over}
+use Rattle.digits.specs.RoomLaws.{length_over, over_nothing, over-over}
 use Rattle.frames.specs.declared.Entry.{Entry}
-use Rattle.frames.specs.Fields.{no_entry}
-use Rattle.frames.specs.WritingLaws.{stored_one}
+use Rattle.frames.specs.Fields.{no_entry, listed}
+use Rattle.frames.specs.Laws.{length-listed}
+use Rattle.frames.specs.WritingLaws.{listed_suc, stored_one}
 use Rattle.raft.specs.Append.{agreed, stop}
 
 -- ---- the search
@@ -79,6 +80,14 @@ module _ (log : List Entry) (index : ℕ) (es : List Entry) where
 
 -- ---- the storing, of the terms and of the orders alike
 
+-- nothing is stored yet
+pub store_none : (f : Entry → ℕ) (d : List ℕ) (es : List Entry) (at first : ℕ) → d ≡ over d at (map f (listed es first (first - first)))
+unfolding listed
+store_none f d es at first = over_nothing d at ∙ ap (λ (k : ℕ). over d at (map f (listed es first k))) none
+  where
+    none : 0 ≡ first - first
+    none = omega arith
+
 -- one entry more is stored
 pub store_next : (f : Entry → ℕ) (d : List ℕ) {d₁ : List ℕ} (es : List Entry) (at i : ℕ) → i < length es → at + length es ≤ length d
     → d₁ ≡ over d at (map f (take i es)) → set d₁ (at + i) (f (get_or es i no_entry)) ≡ over d at (map f (take (i + 1) es))
@@ -96,4 +105,38 @@ store_next f d es at i l h p =
     whole = length_over d at stored (omega (arith, long))
 
     behind : at + i ≡ at + length stored
+    behind = omega (arith, long)
+
+-- the same of listed entries, from one on
+pub store_next-listed : (f : Entry → ℕ) (d : List ℕ) {d₁ : List ℕ} (es : List Entry) (index first i : ℕ) → first ≤ i → index + i < length d
+    → d₁ ≡ over d (index + first) (map f (listed es first (i - first)))
+    → set d₁ (index + i) (f (get_or es i no_entry)) ≡ over d (index + first) (map f (listed es first (i + 1 - first)))
+store_next-listed f d es index first i l h p =
+    rw (
+      p,
+      more,
+      listed_suc es first (i - first),
+      there,
+      map-append f,
+      stored_one (over d (index + first) stored) (index + i) (f (get_or es i no_entry)) (omega (arith, whole)),
+      behind,
+    )
+    (over-over d (index + first) stored (f (get_or es i no_entry) ∷ []) (omega (arith, long)))
+  where
+    stored : List ℕ
+    stored = map f (listed es first (i - first))
+
+    long : length stored ≡ i - first
+    long = length-map (listed es first (i - first)) f ∙ length-listed es first (i - first)
+
+    whole : length (over d (index + first) stored) ≡ length d
+    whole = length_over d (index + first) stored (omega (arith, long))
+
+    more : i + 1 - first ≡ suc (i - first)
+    more = omega arith
+
+    there : first + (i - first) ≡ i
+    there = omega arith
+
+    behind : index + i ≡ index + first + length stored
     behind = omega (arith, long)

@@ -111,6 +111,10 @@ has_none-suc (b ∷ s) (suc i) h =
 pub has_none_more : (s : List ℕ) (i : ℕ) → i < length s → has_none (take (i + 1) s) ≡ (has_none (take i s) && not (eqb (get_or s i 0) line_feed))
 has_none_more s i h = rw (add-one i) (has_none-suc s i h)
 
+pub has_none_more-behind : (bytes : List ℕ) (at i : ℕ) → i < length (drop at bytes)
+    → has_none (take (i + 1) (drop at bytes)) ≡ (has_none (take i (drop at bytes)) && not (eqb (get_or bytes (at + i) 0) line_feed))
+has_none_more-behind bytes at i h = rw (← get_or-drop at bytes i 0) (has_none_more (drop at bytes) i h)
+
 -- so many bytes with no line feed are passed
 pub passed_many : {bytes : List ℕ} {at i : ℕ} (n : ℕ) → Passed bytes at i → i + n ≤ length bytes → has_none (take n (drop i bytes)) ≡ true
     → Passed bytes at (i + n)
