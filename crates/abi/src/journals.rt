@@ -1,4 +1,4 @@
-// Opening a journal for C and Rust: a box goes as its 22 numbers.
+// Opening a journal for C and Rust: a box goes as its 22 numbers, the log as its terms and its orders, the answer as its number.
 ghost use Rattle.abi.specs.Journals.{StoresOpen, FlatOpens, StoresReplay, FlatReplays};
 
 use flat::{box_in, put_box};

@@ -51,11 +51,12 @@ pub record Advances (b : Record) (l : LineFields) (next : Record) : Type 0 where
       → with_entries next log ≡ restarted (with_log log (with_vote l.vote (with_term l.term (with_entries b []))))
   pub last : next.last ≡ l.kept + l.count
 
--- One line over the record so far: the next record and its log, or 10 and all as it was.
+-- A number, and a record: what is told of a line, and of a head alone.
 pub record ReplayedTold : Type 0 where
   pub refusal : ℕ
   pub state : Record
 
+-- One line over the record so far: the next record and its log, or 10 and all as it was.
 pub record Replaying : Type 0 where
   pub answer : ReplayedTold
   pub terms : List ℕ
@@ -74,7 +75,7 @@ abbrev pub told_replay : Record → Result Record Refusal → ReplayedTold
 told_replay b (Ok n) = record { refusal = 0; state = n }
 told_replay b (Err r) = record { refusal = number r; state = b }
 
--- As the contract says it: the lent things before, the answer, and the lent things behind it.
+-- As the contract says it: the lent things before, the answer, and the lent things behind it; first of what is told, then of the answer that tells it.
 abbrev pub Tells : Record → (line terms orders : List ℕ) → ReplayedTold → (terms' orders' : List ℕ) → Type 0
 Tells b line terms orders told terms' orders' =
     ◌≡◌ {A = Replaying} (record { answer = told; terms = terms'; orders = orders' }) (replaying b line terms orders)
@@ -84,14 +85,15 @@ Replays b line terms orders answer terms' orders' = Tells b line terms orders (t
 
 -- ---- a whole journal
 
--- Opening: the record, its log and the byte count, or 11, or 10 and the line's number. "opening returns no record": zeros, and the lent
--- log as it was.
+-- What is told of an opening.
 pub record OpenedTold : Type 0 where
   pub refusal : ℕ
   pub state : Record
   pub bytes : ℕ
   pub fault : ℕ
 
+-- Opening: the record, its log and the byte count, or 11, or 10 and the line's number. "opening returns no record": zeros, and the lent
+-- log as it was.
 pub record Opening : Type 0 where
   pub answer : OpenedTold
   pub terms : List ℕ
@@ -136,7 +138,7 @@ heading box line =
 abbrev pub Heads : ℕ → List ℕ → Result Record Refusal → Type 0
 Heads box line answer = told_replay none answer ≡ heading box line
 
--- 0, or 10 where the line behind those replayed breaks a rule; the record, and how many bytes and lines were replayed.
+-- What is told of a block: 0, or 10 where the line behind those replayed breaks a rule; the record, and how many bytes and lines were replayed.
 pub record BlockTold : Type 0 where
   pub refusal : ℕ
   pub state : Record

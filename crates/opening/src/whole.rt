@@ -1,4 +1,4 @@
-// Opening: the head, and the lines behind it as one block. The log is made aside and handed over only when every line was good.
+// Opening: the head, and the lines behind it as one block. The log, lent as C lends it, is made aside and handed over only when every line was good.
 ghost use Rattle.opening.specs.Calls.{Opens};
 
 use crate::blocks::{replay_head, replay_lines};
