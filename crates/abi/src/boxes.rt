@@ -4,7 +4,7 @@ ghost use Rattle.node.specs.declared.Node.{Node};
 ghost use Rattle.node.specs.Outside.{told};
 ghost use Rattle.abi.specs.Boxes.{Stores, Steps, Begins, Hands};
 
-use flat::{box_in, put_box};
+use flat::{put_box, read_box};
 use frames::Refusal;
 use node::Node;
 use record::{Record, Step};
@@ -38,7 +38,7 @@ pub extern "C" fn box_timeout(
     ensures { Steps times_out n.old terms.old orders.old journal.old room.old sizes.old result
         n.new terms.new orders.new journal.new room.new sizes.new }
 {
-    let Some(state) = box_in(n) else {
+    let Some(state) = read_box(n) else {
         return Refusal::BadRecord.number();
     };
     let b = Node { state };
@@ -59,7 +59,7 @@ pub extern "C" fn box_prompt(
     ensures { Steps is_prompted n.old terms.now orders.now journal.old room.old sizes.old result
         n.new terms.now orders.now journal.new room.new sizes.new }
 {
-    let Some(state) = box_in(n) else {
+    let Some(state) = read_box(n) else {
         return Refusal::BadRecord.number();
     };
     let b = Node { state };
@@ -81,7 +81,7 @@ pub extern "C" fn box_order(
     ensures { Steps (takes_order order) n.old terms.old orders.old journal.old room.old sizes.old result
         n.new terms.new orders.new journal.new room.new sizes.new }
 {
-    let Some(state) = box_in(n) else {
+    let Some(state) = read_box(n) else {
         return Refusal::BadRecord.number();
     };
     let b = Node { state };
@@ -103,7 +103,7 @@ pub extern "C" fn box_receive(
     ensures { Steps (receives text.now) n.old terms.old orders.old journal.old room.old sizes.old result
         n.new terms.new orders.new journal.new room.new sizes.new }
 {
-    let Some(state) = box_in(n) else {
+    let Some(state) = read_box(n) else {
         return Refusal::BadRecord.number();
     };
     let b = Node { state };
@@ -136,7 +136,7 @@ pub extern "C" fn box_handed_out(
 ) -> u8
     ensures { Hands n.now terms.now orders.now count.old result count.new }
 {
-    let Some(state) = box_in(n) else {
+    let Some(state) = read_box(n) else {
         return Refusal::BadRecord.number();
     };
     let b = Node { state };

@@ -1,7 +1,7 @@
 // Opening a journal for C and Rust: a box goes as its 22 numbers, the log as its terms and its orders, the answer as its number.
 ghost use Rattle.abi.specs.Journals.{StoresOpen, FlatOpens, StoresReplay, FlatReplays};
 
-use flat::{box_in, put_box};
+use flat::{put_box, read_box};
 use frames::Refusal;
 use opening::{Opened, Unopened};
 use record::Record;
@@ -68,7 +68,7 @@ pub extern "C" fn journal_replay(
     ensures { FlatReplays text.now n.old terms.old orders.old result
         n.new terms.new orders.new }
 {
-    let Some(state) = box_in(n) else {
+    let Some(state) = read_box(n) else {
         return Refusal::BadRecord.number();
     };
     let replayed = opening::replay(state, text, terms, orders);

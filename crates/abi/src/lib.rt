@@ -9,7 +9,7 @@ mod orders;
 ghost use Rattle.abi.specs.Frames.{Reads, Writes};
 
 pub use boxes::{box_handed_out, box_order, box_prompt, box_receive, box_start, box_timeout};
-use flat::{fields_in, put_flat};
+use flat::{put_flat, read_fields};
 use frames::Refusal;
 pub use journals::{journal_open, journal_replay};
 pub use orders::{order_from_bytes, order_to_bytes};
@@ -33,7 +33,7 @@ pub extern "C" fn frame_read(text: &[u8], numbers: &mut [u64; 17]) -> u8
 pub extern "C" fn frame_write(numbers: &[u64; 17], room: &mut [u8]) -> u8
     ensures { Writes numbers.now room.old result room.new }
 {
-    let Some(f) = fields_in(numbers) else {
+    let Some(f) = read_fields(numbers) else {
         return Refusal::NotAFrame.number();
     };
     match frame_writer::write(room, f) {

@@ -6,7 +6,7 @@ ghost use Rattle.flat.specs.Box.{box_range, box_in, stored_7, lead_flat, box_fla
 use record::{Lead, Record};
 
 // Each number fits the field that it is for: one test of all of them. (With `try_from`, a branch for each number, it took twice as long.)
-fn box_range(n: &[u64; 22]) -> bool
+pub fn box_range(n: &[u64; 22]) -> bool
     ensures { result ≡ box_range n.now }
 {
     (n[0] < 256)
@@ -33,43 +33,47 @@ fn box_range(n: &[u64; 22]) -> bool
         & (n[21] < 65536)
 }
 
-// The box that the numbers are, where each fits the field that it is for.
-pub fn box_in(n: &[u64; 22]) -> Option<Record>
-    ensures { result ≡ cond (box_range n.now) (Some (box_in n.now)) None }
+// The box that the numbers are, whatever they are: its promise is for any numbers. (The remainders change nothing where they are in range.)
+pub fn box_in(n: &[u64; 22]) -> Record
+    ensures { result ≡ box_in n.now }
 {
-    if !box_range(n) {
-        return None;
-    }
     let next = [
-        n[8] as u16,
-        n[9] as u16,
-        n[10] as u16,
-        n[11] as u16,
-        n[12] as u16,
-        n[13] as u16,
-        n[14] as u16,
+        (n[8] % 65536) as u16,
+        (n[9] % 65536) as u16,
+        (n[10] % 65536) as u16,
+        (n[11] % 65536) as u16,
+        (n[12] % 65536) as u16,
+        (n[13] % 65536) as u16,
+        (n[14] % 65536) as u16,
     ];
     let matched = [
-        n[15] as u16,
-        n[16] as u16,
-        n[17] as u16,
-        n[18] as u16,
-        n[19] as u16,
-        n[20] as u16,
-        n[21] as u16,
+        (n[15] % 65536) as u16,
+        (n[16] % 65536) as u16,
+        (n[17] % 65536) as u16,
+        (n[18] % 65536) as u16,
+        (n[19] % 65536) as u16,
+        (n[20] % 65536) as u16,
+        (n[21] % 65536) as u16,
     ];
     let lead = Lead { next, matched };
-    Some(Record {
-        me: n[0] as u8,
-        members: n[1] as u8,
-        term: n[2] as u32,
-        vote: n[3] as u8,
-        last: n[4] as u16,
-        commit: n[5] as u16,
-        role: n[6] as u8,
-        votes: n[7] as u8,
+    Record {
+        me: (n[0] % 256) as u8,
+        members: (n[1] % 256) as u8,
+        term: (n[2] % 4294967296) as u32,
+        vote: (n[3] % 256) as u8,
+        last: (n[4] % 65536) as u16,
+        commit: (n[5] % 65536) as u16,
+        role: (n[6] % 256) as u8,
+        votes: (n[7] % 256) as u8,
         lead,
-    })
+    }
+}
+
+// The box that the numbers are, where each fits its field.
+pub fn read_box(n: &[u64; 22]) -> Option<Record>
+    ensures { result ≡ cond (box_range n.now) (Some (box_in n.now)) None }
+{
+    box_range(n).then(|| box_in(n))
 }
 
 // Stores seven numbers from a place on.

@@ -4,5 +4,5 @@
 mod boxes;
 mod message;
 
-pub use boxes::{box_in, put_box};
-pub use message::{fields_in, put_flat};
+pub use boxes::{box_in, box_range, put_box, read_box};
+pub use message::{fields_in, in_range, put_flat, read_fields};

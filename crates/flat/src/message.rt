@@ -29,8 +29,8 @@ pub fn put_flat(numbers: &mut [u64; 17], f: Fields)
     numbers[16] = f.entries[3].order;
 }
 
-// Each number fits the field that it is for: one test of all of them. (With `try_from`, a branch for each number, writing a frame took 5 ns more.)
-fn in_range(n: &[u64; 17]) -> bool
+// Each number fits the field that it is for: one test of all of them, as for a box.
+pub fn in_range(n: &[u64; 17]) -> bool
     ensures { result ≡ in_range n.now }
 {
     (n[0] < 256)
@@ -48,40 +48,44 @@ fn in_range(n: &[u64; 17]) -> bool
         & (n[15] < 4294967296)
 }
 
-// The entry whose two numbers begin at a place.
-fn entry_in(n: &[u64; 17], at: usize) -> Entry
-    requires place { at < 16 }
-    requires fits { get_or n.now at 0 < 4294967296 }
-    ensures { result ≡ entry_at n.now at }
+// The fields that the numbers are, whatever they are: its promise is for any numbers. (The remainders change nothing where they are in range.)
+pub fn fields_in(n: &[u64; 17]) -> Fields
+    ensures { result ≡ fields_in n.now }
 {
-    Entry {
-        term: n[at] as u32,
-        order: n[at + 1],
+    let a = Entry {
+        term: (n[9] % 4294967296) as u32,
+        order: n[10],
+    };
+    let b = Entry {
+        term: (n[11] % 4294967296) as u32,
+        order: n[12],
+    };
+    let c = Entry {
+        term: (n[13] % 4294967296) as u32,
+        order: n[14],
+    };
+    let d = Entry {
+        term: (n[15] % 4294967296) as u32,
+        order: n[16],
+    };
+    let entries = [a, b, c, d];
+    Fields {
+        kind: (n[0] % 256) as u8,
+        from: (n[1] % 256) as u8,
+        to: (n[2] % 256) as u8,
+        term: (n[3] % 4294967296) as u32,
+        index: (n[4] % 65536) as u16,
+        prior: (n[5] % 4294967296) as u32,
+        commit: (n[6] % 65536) as u16,
+        reply: (n[7] % 256) as u8,
+        count: (n[8] % 256) as u8,
+        entries,
     }
 }
 
-// The fields that the numbers are, where each fits the field that it is for.
-pub fn fields_in(n: &[u64; 17]) -> Option<Fields>
+// The fields that the numbers are, where each fits its field.
+pub fn read_fields(n: &[u64; 17]) -> Option<Fields>
     ensures { result ≡ cond (in_range n.now) (Some (fields_in n.now)) None }
 {
-    if !in_range(n) {
-        return None;
-    }
-    Some(Fields {
-        kind: n[0] as u8,
-        from: n[1] as u8,
-        to: n[2] as u8,
-        term: n[3] as u32,
-        index: n[4] as u16,
-        prior: n[5] as u32,
-        commit: n[6] as u16,
-        reply: n[7] as u8,
-        count: n[8] as u8,
-        entries: [
-            entry_in(n, 9),
-            entry_in(n, 11),
-            entry_in(n, 13),
-            entry_in(n, 15),
-        ],
-    })
+    in_range(n).then(|| fields_in(n))
 }
