@@ -95,7 +95,7 @@ pub fn answer_known(
             }
         }
         Err(refusal) => {
-            let bytes = put_refusal(room, refusal);
+            let bytes = put_refusal(room, refusal.number());
             Answered { state: n, bytes }
         }
     }
@@ -146,7 +146,7 @@ pub fn begin(line: &[u8], room: &mut [u8]) -> Option<Begun>
         }),
         Err(_) => Some(Begun {
             state: None,
-            bytes: put_refusal(room, Refusal::BadRecord),
+            bytes: put_refusal(room, Refusal::BadRecord.number()),
         }),
     }
 }

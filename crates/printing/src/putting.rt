@@ -3,9 +3,7 @@ ghost use Rattle.std.specs.Prelude.{◌≡◌, ◌+◌, ◌≤◌, length};
 ghost use Rattle.digits.specs.Room.{over};
 ghost use Rattle.printing.specs.Text.{decimal, refusal_line};
 ghost use Rattle.printing.specs.Putting.{Puts};
-ghost use Rattle.frames.specs.Refusal.{number};
 
-use frames::Refusal;
 use itoa::Buffer;
 
 // Puts a text at a place of the room.
@@ -28,13 +26,13 @@ pub fn put_decimal(room: &mut [u8], at: usize, n: u64) -> usize
     at + text.len()
 }
 
-// Puts the line of a refusal at the room's start; answers its bytes.
-pub fn put_refusal(room: &mut [u8], refusal: Refusal) -> usize
+// Puts the line of a refusal at the room's start, of any number (a refusal's type would ask more); answers its bytes.
+pub fn put_refusal(room: &mut [u8], number: u8) -> usize
     requires { 22 ≤ length room.old }
-    ensures { Puts room.old 0 (refusal_line (number refusal)) result room.new }
+    ensures { Puts room.old 0 (refusal_line number) result room.new }
 {
     room[0] = b'n';
-    let end = put_decimal(room, 1, refusal.number() as u64);
+    let end = put_decimal(room, 1, number as u64);
     room[end] = 10;
     end + 1
 }

@@ -38,5 +38,5 @@ put_refusal-bytes-requires c = omega (arith, c.step.auto.journal, c.requires.roo
 pub returns-in-Err : goal.returns-in-Err
 returns-in-Err c =
     let refused : number c.in-Err.refusal ≡ 0 → ⊥ = λ e. not_done c.in-Err.refusal (sym e) in
-    let left = line_refused c.args.line.now c.requires.knows c.requires.roomy c.in-Err.ensures refused c.put_refusal-bytes.ensures in
+    let left = line_refused c.args.line.now c.requires.knows c.requires.roomy c.in-Err.ensures refused (rw c.number.ensures at c.put_refusal-bytes.ensures) in
     record { answers_line = left.0; known = left.1 }

@@ -18,5 +18,5 @@ returns-in-Ok c =
 pub returns-in-Err : goal.returns-in-Err
 returns-in-Err c =
     let refused : number c.in-Err.field-0 ≡ 0 → ⊥ = λ e. not_done c.in-Err.field-0 (sym e) in
-    let whole = start-bad c.args.line.now c.args.room.now (omega (arith, c.if-room-lt-LONGEST.false)) c.in-Err.ensures refused c.put_refusal.ensures in
+    let whole = start-bad c.args.line.now c.args.room.now (omega (arith, c.if-room-lt-LONGEST.false)) c.in-Err.ensures refused (rw c.number.ensures at c.put_refusal.ensures) in
     record { begins = whole; bytes_in_bounds = begin_within c.args.line.now c.args.room.now whole }

@@ -4,4 +4,4 @@ use Rattle.printing.proofs.putting.put_refusal.Goals as goal
 
 pub returns : goal.returns
 returns c =
-    rw (← c.number.ensures) (refusal-put c.args.room.now c.number.result c.requires c.put_decimal-end.ensures.puts)
+    refusal-put c.args.room.now c.args.number c.requires c.put_decimal-end.ensures.puts
