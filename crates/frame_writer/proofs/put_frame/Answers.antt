@@ -2,7 +2,6 @@
 use native.Mathlib.Omega.{arith}
 use mathlib.Core.Path.{◌≡◌}
 use Rattle.frames.specs.Reading.{size}
-use Rattle.frames.specs.Laws.{kind_3, listed-take, length-listed}
 use Rattle.frames.specs.WritingLaws.{whole}
 use Rattle.frame_writer.specs.Writable.{room_of}
 use Rattle.frame_writer.proofs.put_frame.Goals as goal
