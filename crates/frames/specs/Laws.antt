@@ -112,3 +112,6 @@ module _ (es : List Entry) (i last term : ℕ) where
   pub in_order_end : length es ≤ i → in_order last term (drop i es) ≡ leb last term
   unfolding in_order
   in_order_end h = rw (drop_all i es h)
+
+-- for the code's proofs
+pub ruleset steps = (in_order-next, in_order-broken, in_order_end, length-listed, listed-take)
