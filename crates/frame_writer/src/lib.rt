@@ -24,7 +24,7 @@ fn put_start(room: &mut [u8], kind: u8, from: u8, to: u8, term: u32)
 }
 
 // The line feed that ends a frame or a journal line. (An inside call.)
-#[tactic(auto, using(frames::specs::WritingLaws::steps))]
+#[tactic(auto, using(crate::proofs::Steps::steps))]
 pub fn put_end(room: &mut [u8], at: usize)
     requires { at < length room.old }
     ensures { room.new ≡ over room.old at (10 ∷ []) }
@@ -76,7 +76,7 @@ pub fn put_entry(room: &mut [u8], at: usize, term: u32, order: u64)
 }
 
 // Entries, one behind the other, from a place on. (An inside call.)
-#[tactic(auto, using(frames::specs::WritingLaws::steps), unfolding(frames::specs::Message::entry_fields))]
+#[tactic(auto, using(crate::proofs::Steps::steps), unfolding(frames::specs::Message::entry_fields))]
 pub fn put_entries(room: &mut [u8], at: usize, entries: &[Entry])
     requires { at + 24 * length entries.now ≤ length room.old }
     ensures { room.new ≡ over room.old at (spell (entry_fields entries.now)) }
@@ -122,7 +122,7 @@ fn put_append(room: &mut [u8], f: Fields)
 }
 
 // The frame of the fields' kind.
-#[tactic(auto, unfolding(frames::specs::Message::by_kind))]
+#[tactic(auto, using(crate::proofs::Steps::steps), unfolding(frames::specs::Message::by_kind, frames::specs::Reading::size))]
 fn put_frame(room: &mut [u8], f: Fields)
     requires { Writable f room.old }
     ensures { room.new ≡ over room.old 0 (text (message_of f)) }
@@ -137,7 +137,7 @@ fn put_frame(room: &mut [u8], f: Fields)
 
 // `NotAFrame` exactly when the fields are not one frame, `NoRoom` exactly when the room is too short for it;
 // otherwise the frame's bytes at the room's start, and how many.
-#[tactic(auto, using(frames::specs::WritingLaws::steps))]
+#[tactic(auto, using(crate::proofs::Steps::steps))]
 pub fn write(room: &mut [u8], f: Fields) -> Result<usize, Refusal>
     ensures { ◌≡◌ {A = Wrote} (record { answer = result; room = room.new }) (written f room.old) }
 {

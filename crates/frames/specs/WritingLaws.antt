@@ -208,6 +208,3 @@ written_fits f d {d₁} {n} e = go (one_frame f) (leb (length (text (message_of 
         omega (arith, leb-true (length (text (message_of f))) (length d) h)
     go true false h x y z p q r e = absurd (cc (ap (λ (w : Wrote). w.answer) e))
     go false l h x y z p q r e = absurd (cc (ap (λ (w : Wrote). w.answer) e))
-
--- for the writer's functions
-pub ruleset steps = (stored_one, put-none, put-entry-next, whole, text-bytes, written-not, written-short, written-whole)
