@@ -1,2 +1,3 @@
--- What holds of the contracts.
+-- The set of laws for the functions' own proofs, and what holds of the contracts.
+pub mod Steps
 mod OneAnswer

@@ -12,7 +12,7 @@ ghost use Rattle.frame_reader.specs.Known.{LineOf, FixedOf, KindOf, EntriesIn, E
 use frames::{Entry, Fields, Refusal, obeys, size, text_size};
 
 // Digits, ended by one line feed, and nothing after it. (An inside call: lines of text and of the journal are looked at by it too.)
-#[tactic(auto, using(frames::proofs::ReadingLaws::steps))]
+#[tactic(auto, using(crate::proofs::Steps::steps))]
 pub fn is_line(s: &[u8]) -> bool
     ensures { result ≡ reading.is_line s.now }
 {
@@ -44,7 +44,7 @@ fn count(s: &[u8], kind: u8) -> u8
 }
 
 // As long as its kind and count tell, with at most four entries.
-#[tactic(auto, using(frames::proofs::ReadingLaws::steps))]
+#[tactic(auto, using(crate::proofs::Steps::steps))]
 fn is_long(s: &[u8], kind: u8) -> bool
     requires { KindOf s.now kind }
     ensures { result ≡ is_long s.now }
@@ -57,7 +57,7 @@ fn is_long(s: &[u8], kind: u8) -> bool
 }
 
 // The form of a frame, with at most four entries.
-#[tactic(auto, using(frames::proofs::ReadingLaws::steps), unfolding(frames::specs::Reading::readable, frames::specs::Reading::shaped, frames::specs::Reading::is_headed, frames::specs::Reading::kind))]
+#[tactic(auto, using(crate::proofs::Steps::steps), unfolding(frames::specs::Reading::readable, frames::specs::Reading::shaped, frames::specs::Reading::is_headed, frames::specs::Reading::kind))]
 fn is_readable(s: &[u8]) -> bool
     ensures { result ≡ reading.readable s.now }
 {
@@ -118,7 +118,7 @@ fn append_answer(s: &[u8]) -> Fields
 }
 
 // The entry at a place of the four: what stands there, or none past the count.
-#[tactic(auto, using(frames::proofs::ReadingLaws::steps), unfolding(frames::specs::Reading::entry_at))]
+#[tactic(auto, using(crate::proofs::Steps::steps), unfolding(frames::specs::Reading::entry_at))]
 fn entry(s: &[u8], from: usize, at: usize, count: u8) -> Entry
     requires { EntryIn s.now from at count }
     ensures { result ≡ get_or (reading.entries_at s.now from count) at no_entry }
@@ -147,7 +147,7 @@ pub fn entries(s: &[u8], from: usize, count: u8) -> [Entry; Fields::ENTRIES]
 }
 
 // The fields of an append, and as many entries as it counts.
-#[tactic(auto, using(frames::proofs::ReadingLaws::steps), unfolding(frames::specs::Fields::fields_of, frames::specs::Reading::append_in))]
+#[tactic(auto, using(crate::proofs::Steps::steps), unfolding(frames::specs::Fields::fields_of, frames::specs::Reading::append_in))]
 fn append(s: &[u8]) -> Fields
     requires { 34 + 24 * field s.now 32 1 ≤ run s.now }
     ensures { result ≡ fields_of (reading.append_in s.now) }
@@ -169,7 +169,7 @@ fn append(s: &[u8]) -> Fields
 }
 
 // The fields of the kind. (Each arm returns by itself: where they meet in one value it is taken apart and put together again, 3 ns more.)
-#[tactic(auto, using(frames::proofs::ReadingLaws::steps), unfolding(frames::specs::Reading::message_in, frames::specs::Reading::kind, frames::specs::Message::by_kind))]
+#[tactic(auto, using(crate::proofs::Steps::steps), unfolding(frames::specs::Reading::message_in, frames::specs::Reading::kind, frames::specs::Message::by_kind))]
 fn fields(s: &[u8]) -> Fields
     requires { reading.readable s.now ≡ true }
     ensures { result ≡ fields_of (reading.message_in s.now) }
@@ -183,7 +183,7 @@ fn fields(s: &[u8]) -> Fields
 }
 
 // The message that the bytes are, or `NotAFrame` exactly when they are not one frame.
-#[tactic(auto, using(frames::proofs::ReadingLaws::steps), unfolding(frames::specs::Fields::answer))]
+#[tactic(auto, using(crate::proofs::Steps::steps), unfolding(frames::specs::Fields::answer))]
 pub fn read(s: &[u8]) -> Result<Fields, Refusal>
     ensures { result ≡ answer (reading.reading s.now) }
 {

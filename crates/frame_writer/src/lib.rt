@@ -1,4 +1,5 @@
 // Writing: any fields at all, into room that the caller lends. A refusal leaves the room as it was.
+// (The room is lent whole, with a place in it, as in `digits`: what is promised is all of it.)
 #![tactic(auto)]
 
 ghost use Rattle.std.specs.Prelude.{◌≡◌, [], ◌∷◌, ◌+◌, ◌*◌, ◌≤◌, ◌<◌, length};
@@ -24,6 +25,7 @@ fn put_start(room: &mut [u8], kind: u8, from: u8, to: u8, term: u32)
 }
 
 // The line feed that ends a frame or a journal line. (An inside call.)
+#[tactic(auto, using(crate::proofs::Steps::steps))]
 pub fn put_end(room: &mut [u8], at: usize)
     requires { at < length room.old }
     ensures { room.new ≡ over room.old at (10 ∷ []) }
@@ -31,14 +33,15 @@ pub fn put_end(room: &mut [u8], at: usize)
     room[at] = 10;
 }
 
-// One function for each kind, on its fields alone. They are inside calls: they ask for the room, and the fields may say anything.
+// One function for each kind, on its fields alone: whoever sends from a record has no `Fields`, with its four places for entries, and would
+// make one to send none. They are inside calls: they ask for the room, and the fields may say anything.
 
 // Kind 1: "last index 2, last term 4".
 pub fn put_vote_request(room: &mut [u8], from: u8, to: u8, term: u32, index: u16, prior: u32)
     requires { 29 ≤ length room.old }
     ensures { room.new ≡ over room.old 0 (text (vote_request from to term index prior)) }
 {
-    put_start(room, 1, from, to, term);
+    put_start(room, Fields::VOTE_REQUEST, from, to, term);
     digits::put(room, 16, index);
     digits::put(room, 20, prior);
     put_end(room, 28);
@@ -49,7 +52,7 @@ pub fn put_vote_answer(room: &mut [u8], from: u8, to: u8, term: u32, reply: u8)
     requires { 19 ≤ length room.old }
     ensures { room.new ≡ over room.old 0 (text (vote_answer from to term reply)) }
 {
-    put_start(room, 2, from, to, term);
+    put_start(room, Fields::VOTE_ANSWER, from, to, term);
     digits::put(room, 16, reply);
     put_end(room, 18);
 }
@@ -59,7 +62,7 @@ pub fn put_append_answer(room: &mut [u8], from: u8, to: u8, term: u32, reply: u8
     requires { 23 ≤ length room.old }
     ensures { room.new ≡ over room.old 0 (text (append_answer from to term reply index)) }
 {
-    put_start(room, 4, from, to, term);
+    put_start(room, Fields::APPEND_ANSWER, from, to, term);
     digits::put(room, 16, reply);
     digits::put(room, 18, index);
     put_end(room, 22);
@@ -75,6 +78,7 @@ pub fn put_entry(room: &mut [u8], at: usize, term: u32, order: u64)
 }
 
 // Entries, one behind the other, from a place on. (An inside call.)
+#[tactic(auto, using(crate::proofs::Steps::steps), unfolding(frames::specs::Message::entry_fields))]
 pub fn put_entries(room: &mut [u8], at: usize, entries: &[Entry])
     requires { at + 24 * length entries.now ≤ length room.old }
     ensures { room.new ≡ over room.old at (spell (entry_fields entries.now)) }
@@ -98,7 +102,7 @@ pub fn put_append_start(
     requires { 34 ≤ length room.old }
     ensures { room.new ≡ over room.old 0 (spell (start 3 from to term (number 2 index ∷ number 4 prior ∷ number 2 commit ∷ number 1 count ∷ []))) }
 {
-    put_start(room, 3, from, to, term);
+    put_start(room, Fields::APPEND, from, to, term);
     digits::put(room, 16, index);
     digits::put(room, 20, prior);
     digits::put(room, 28, commit);
@@ -120,7 +124,7 @@ fn put_append(room: &mut [u8], f: Fields)
 }
 
 // The frame of the fields' kind.
-#[tactic(auto, unfolding(frames::specs::Message::by_kind))]
+#[tactic(auto, using(crate::proofs::Steps::steps), unfolding(frames::specs::Message::by_kind, frames::specs::Reading::size))]
 fn put_frame(room: &mut [u8], f: Fields)
     requires { Writable f room.old }
     ensures { room.new ≡ over room.old 0 (text (message_of f)) }
@@ -135,6 +139,7 @@ fn put_frame(room: &mut [u8], f: Fields)
 
 // `NotAFrame` exactly when the fields are not one frame, `NoRoom` exactly when the room is too short for it;
 // otherwise the frame's bytes at the room's start, and how many.
+#[tactic(auto, using(crate::proofs::Steps::steps))]
 pub fn write(room: &mut [u8], f: Fields) -> Result<usize, Refusal>
     ensures { ◌≡◌ {A = Wrote} (record { answer = result; room = room.new }) (written f room.old) }
 {

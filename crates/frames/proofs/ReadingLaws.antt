@@ -269,6 +269,3 @@ read_unreadable s h = go (is_frame s) refl
     go : (b : Bool) → is_frame s ≡ b → cond (is_frame s) (frame (message_in s)) refused ≡ refused
     go true e = absurd (true≢false (sym (frame-readable s e) ∙ h))
     go false e = rw e
-
--- for the reader's functions
-pub ruleset steps = (length-entries, entry-there, entry_past, line-run, no_line, line_split, size-lt, size-grows, readable-long, unreadable, headed_kind, form, room_for, room_for_entries, read-few, read-frame, read_disobeys, read_unreadable)

@@ -128,3 +128,6 @@ module _ (es : List Entry) (i n last term : ℕ) where
   pub in_order_end-listed : n ≤ i → in_order last term (listed es i (n - i)) ≡ leb last term
   unfolding in_order
   in_order_end-listed h = rw (listed_end es i n h)
+
+-- for the code's proofs
+pub ruleset steps = (in_order-next, in_order-broken, in_order_end, length-listed, listed-take)

@@ -52,6 +52,7 @@ fn follows(last: u32, term: u32, next: u32) -> bool
 
 // The entry rule: "previous term and the entry terms never fall, entry terms at least 1, none of them, previous term included, above term".
 // (An inside call: the journal's lines have the same rule.)
+#[tactic(auto, using(crate::specs::Laws::steps))]
 pub fn in_order(entries: &[Entry], previous: u32, term: u32) -> bool
     ensures { result ≡ in_order previous term entries.now }
 {
@@ -84,6 +85,7 @@ fn is_vote_answer(f: Fields) -> bool
 
 // "Kind 3: count at most 4, previous index + count at most 256", and the entry rule. (The entries copied by themselves: a part of the
 // struct in their place is copied together with the count before them, and has to wait for its store.)
+#[tactic(auto, using(crate::specs::Laws::steps))]
 fn is_append(f: Fields) -> bool
     requires { f.count ≤ entry_limit }
     ensures { result ≡ obeys (append f.from f.to f.term f.index f.prior f.commit (listed f.entries 0 f.count)) }
@@ -109,17 +111,18 @@ fn is_append_answer(f: Fields) -> bool
         & ((f.reply == 1) | (f.index == 0))
 }
 
-// The rules of the fields' kind. (An inside call, of the reader: it knows that the entries are at most four.)
+// The rules of the fields' kind. (An inside call, of the reader: it knows that the entries are at most four. Each arm returns by itself: where they
+// meet, the tests are turned round, and a vote request takes 2 ns more to read and to write.)
 #[tactic(auto, unfolding(crate::specs::Message::by_kind))]
 pub fn obeys(f: Fields) -> bool
     requires { f.count ≤ entry_limit }
     ensures { result ≡ obeys (message_of f) }
 {
     match f.kind {
-        Fields::VOTE_REQUEST => is_vote_request(f),
-        Fields::VOTE_ANSWER => is_vote_answer(f),
-        Fields::APPEND => is_append(f),
-        _ => is_append_answer(f),
+        Fields::VOTE_REQUEST => return is_vote_request(f),
+        Fields::VOTE_ANSWER => return is_vote_answer(f),
+        Fields::APPEND => return is_append(f),
+        _ => return is_append_answer(f),
     }
 }
 

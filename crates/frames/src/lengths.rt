@@ -4,7 +4,8 @@ ghost use Rattle.frames.specs.Reading as reading;
 
 use digits::LENGTHS;
 
-// The bytes of a frame of a kind with so many entries.
+// The bytes of a frame of a kind with so many entries. (The kind is a place in the table.)
+#[tactic(auto, using(crate::proofs::ReadingLaws::longest), unfolding(crate::specs::Reading::size))]
 pub fn size(kind: u8, count: u8) -> usize
     requires { kind < 5 }
     ensures { result ≡ reading.size kind count }

@@ -18,7 +18,8 @@ pub struct Entry {
 
 // The fields of a message of any of the four kinds. What a kind does not have is 0:
 // index is the last, previous or named index; prior the last or previous term.
-// Kind and yes stay numbers: `frame_writer::write` answers `NotAFrame` for any fields whatever, and C may hand over any number.
+// Kind and yes stay numbers: `frame_writer::write` answers `NotAFrame` for any fields whatever, and C may hand over any number. The entries
+// have four places, as many as there can be, since nothing is allocated.
 #[derive(Clone, Copy)]
 pub struct Fields {
     pub kind: u8,
@@ -63,7 +64,7 @@ impl Fields {
 
     pub const ENTRIES: usize = 4;
 
-    // Kinds.
+    // Kinds, as patterns for a choice by the number.
     pub const VOTE_REQUEST: u8 = 1;
 
     pub const VOTE_ANSWER: u8 = 2;

@@ -3,7 +3,6 @@ use native.Mathlib.Omega.{arith}
 use mathlib.Core.List.{[], ◌∷◌}
 use Prim.Native.Nat.{ℕ, ◌+◌, ◌*◌}
 use mathlib.Core.Path.{◌≡◌, ap, sym, ◌∙◌}
-use lib.ListN.{length, take}
 use Rattle.digits.specs.Room.{over}
 use Rattle.frames.specs.Message.{append, number, start, entry_fields, table}
 use Rattle.frames.specs.Fields.{listed}

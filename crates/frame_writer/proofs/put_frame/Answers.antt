@@ -2,25 +2,12 @@
 use native.Mathlib.Omega.{arith}
 use mathlib.Core.Path.{◌≡◌}
 use Rattle.frames.specs.Reading.{size}
-use Rattle.frames.specs.Laws.{kind_3, listed-take, length-listed}
 use Rattle.frames.specs.WritingLaws.{whole}
 use Rattle.frame_writer.specs.Writable.{room_of}
 use Rattle.frame_writer.proofs.put_frame.Goals as goal
 
-pub put_vote_request-requires : goal.put_vote_request-requires
-unfolding size
-put_vote_request-requires c =
-    omega (arith, room_of c.args.f c.args.room.now c.requires 1 c.in-1.is)
-
-pub put_vote_answer-requires : goal.put_vote_answer-requires
-unfolding size
-put_vote_answer-requires c =
-    omega (arith, room_of c.args.f c.args.room.now c.requires 2 c.in-2.is)
-
-pub put_append-requires : goal.put_append-requires
-unfolding size
-put_append-requires c =
-    record { few = (whole c.args.f c.requires.frame).few; room = omega (arith, room_of c.args.f c.args.room.now c.requires 3 c.in-3.is) }
+pub put_append-requires-clause-few : goal.put_append-requires-clause-few
+put_append-requires-clause-few c = (whole c.args.f c.requires.frame).few
 
 pub put_append_answer-requires : goal.put_append_answer-requires
 unfolding size
