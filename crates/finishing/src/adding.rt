@@ -52,6 +52,7 @@ pub fn finish_one(
         terms.old orders.old journal.old messages.old result
         terms.new orders.new journal.new messages.new }
 {
-    let new = Entry { term, order };
-    finish_adding(n, d, &[new], terms, orders, journal, messages)
+    let none = Entry { term: 0, order: 0 };
+    let offered = [Entry { term, order }, none, none, none];
+    finish_adding(n, d, &offered, terms, orders, journal, messages)
 }

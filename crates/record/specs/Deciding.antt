@@ -1,7 +1,7 @@
 -- What a decision says: the outcome that it stands for, and what whoever writes it down relies on. Assumes nothing.
 use Rattle.std.specs.Prelude.{ℕ, ◌+◌, ◌-◌, ◌≤◌, ◌≡◌, Bool, true, List, [], ◌∷◌, ◌++◌, length, Result, MatchResult}
 use Rattle.frames.specs.declared.Entry.{Entry}
-use Rattle.frames.specs.Fields.{listed}
+use Rattle.frames.specs.Fields.{no_entry, listed}
 use Rattle.frames.specs.Limits.{IsBox, log_limit, entry_limit}
 use Rattle.frames.specs.Message.{Message, vote_answer, append_answer}
 use Rattle.frames.specs.declared.refusal.Refusal.{Refusal}
@@ -25,9 +25,9 @@ messages_of (Send.Append to) t = append_to t to ∷ []
 messages_of (Send.VoteAnswer to reply) t = vote_answer t.me to t.term reply ∷ []
 messages_of (Send.AppendAnswer to reply index) t = append_answer t.me to t.term reply index ∷ []
 
--- What is offered may be one entry: a client's order, or a new leader's blank.
+-- What is offered may be one entry, in the first of four places: a client's order, or a new leader's blank.
 unfoldable pub one_entry : (term order : ℕ) → List Entry
-one_entry term order = record { term = term; order = order } ∷ []
+one_entry term order = record { term = term; order = order } ∷ no_entry ∷ no_entry ∷ no_entry ∷ []
 
 -- The next record's log: the entries that are kept, and behind them those of the offered ones that are new.
 abbrev pub new_of : Decision → List Entry → List Entry
@@ -82,9 +82,10 @@ pub record Sound (n : Record) (d : Decision) (offered : List Entry) (terms order
   pub decides : Decides n.last d offered terms orders (decided d offered terms orders)
   pub next_good : Good (after d offered terms orders)
 
--- The same where no entry is added.
+-- The same where no entry is added, whatever was offered.
 pub record AddsNone (n : Record) (d : Decision) (terms orders : List ℕ) : Type 0 where
-  pub sound : Sound n d [] terms orders
+  pub offered : List Entry
+  pub sound : Sound n d offered terms orders
   pub none : d.first ≡ d.count
 
 -- ---- changes of a struct

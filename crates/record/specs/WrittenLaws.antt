@@ -255,6 +255,11 @@ module _ {n : Record} {d : Decision} {offered : List Entry} {terms orders : List
       let none : d.count - d.first ≡ 0 = omega arith in
       (rw none (over-empty terms d.kept (omega (arith, k.low, p))), rw none (over-empty orders d.kept (omega (arith, k.low, q))))
 
+  -- and what was offered does not matter,
+  pub adds_none-decided : d.first ≡ d.count → decided d offered terms orders ≡ decided d [] terms orders
+  unfolding decided listed
+  adds_none-decided h = let none : d.count - d.first ≡ 0 = omega arith in rw none
+
   -- the next record's messages can be made
   pub after-sendable : Sendable d.next terms' orders'
   unfolding sends_to

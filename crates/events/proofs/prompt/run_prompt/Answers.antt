@@ -1,4 +1,5 @@
 -- What is decided, finished.
+use mathlib.Core.List.{[]}
 use mathlib.Core.Path.{◌∙◌}
 use Rattle.raft.specs.Event.{step, is_prompted}
 use Rattle.record.specs.GoodLaws.{ready-last}
@@ -18,6 +19,7 @@ pub finish-requires : goal.finish-requires
 unfolding step
 finish-requires c =
     record {
+      offered = [];
       sound = sound is_prompted c.requires (c.in_ok-d.ensures.by_index c.args.terms.now c.args.orders.now);
       none = c.in_ok-d.ensures.first_value;
     }
