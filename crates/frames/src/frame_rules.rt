@@ -162,6 +162,8 @@ fn fields_unused(f: Fields) -> bool
 pub fn is_frame(f: Fields) -> bool
     ensures { result ≡ one_frame f }
 {
-    (f.count as usize <= Fields::ENTRIES)
-        && (1 <= f.kind) & (f.kind <= 4) & obeys(f) & fields_unused(f) & entries_unused(f)
+    if Fields::ENTRIES < f.count as usize {
+        return false;
+    }
+    (1 <= f.kind) & (f.kind <= 4) & obeys(f) & fields_unused(f) & entries_unused(f)
 }
