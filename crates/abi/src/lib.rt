@@ -1,5 +1,5 @@
 // The library's functions for C and Rust, on numbers and byte slices alone.
-// A message goes as 17 numbers, a box as 22: `flat` says which.
+// A message goes as 17 numbers, a box as 22: `flat` says which. The log goes as two arrays, terms and orders. Four events are four functions: C calls each by its name.
 #![tactic(auto)]
 
 mod boxes;

@@ -23,6 +23,7 @@ fn answer_each(
     let mut state = n;
     let mut at = 0;
     let mut to = 0;
+    // (Each turn takes a line, and stops where none is whole or the room may not hold its answer: two counts, and a `for` over neither.)
     loop {
         let end = text::line_end(bytes, at);
         if (end == at) | (room.len() - to < Answered::LONGEST) {

@@ -1,4 +1,5 @@
 // A box on lines of text: 01's small program but for its reading and writing.
+// (The log is lent as C lends it, terms and orders apart; why no struct holds both is in docs/DESIGN-PASS.md, point 5.)
 #![tactic(auto)]
 
 mod blocks;

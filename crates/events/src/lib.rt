@@ -1,4 +1,5 @@
 // The events that need no message, on a record that is known to be good. Each decides first; `finishing` then writes.
+// (The log is lent as C lends it, terms and orders apart; why no struct holds both is in docs/DESIGN-PASS.md, point 5.)
 #![tactic(auto)]
 
 mod order;

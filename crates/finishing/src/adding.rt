@@ -52,7 +52,6 @@ pub fn finish_one(
         terms.old orders.old journal.old messages.old result
         terms.new orders.new journal.new messages.new }
 {
-    let none = Entry { term: 0, order: 0 };
-    let offered = [Entry { term, order }, none, none, none];
+    let offered = [Entry { term, order }, Entry::NONE, Entry::NONE, Entry::NONE];
     finish_adding(n, d, &offered, terms, orders, journal, messages)
 }

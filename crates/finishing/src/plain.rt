@@ -8,7 +8,7 @@ use crate::measuring::measured;
 use frames::Refusal;
 use record::{Decision, Record, Step};
 
-// A step that adds no entry.
+// A step that adds no entry. (No generic one with `finish_adding`: a prompt's log is lent by `&`, and nothing can be stored through it.)
 pub fn finish(
     n: Record,
     d: Decision,

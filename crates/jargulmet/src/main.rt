@@ -28,6 +28,7 @@ fn answer_all<W: Write>(
 {
     let mut state = n;
     let mut at = 0;
+    // (As many turns as the output's room makes of a block: no `for` counts them.)
     loop {
         let done = console::answer_lines(state, &bytes[at..], terms, orders, output);
         if done.consumed == 0 {

@@ -1,4 +1,5 @@
 // What a leader does beyond a role's change: its commit, an entry more, winning, and what an append answer tells.
+// (The log is lent as C lends it, terms and orders apart; why no struct holds both is in docs/DESIGN-PASS.md, point 5.)
 #![tactic(auto)]
 
 mod commit;

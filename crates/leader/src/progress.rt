@@ -5,6 +5,7 @@ ghost use Rattle.leader.specs.Required.{HeardFrom};
 
 use record::{Lead, Record};
 
+// (The reply is its number in the frame: `heard` is promised for any.)
 // "Yes: match = the larger of match and the index named; next = the larger of next and match + 1. No: .."
 pub fn heard(n: Record, from: u8, reply: u8, index: u16) -> Record
     requires { HeardFrom n from reply index }

@@ -1,4 +1,5 @@
 // The four kinds of message, on a record that is known to be good: each decides; any bytes are read, judged and finished in `receive`.
+// (The log is lent as C lends it, terms and orders apart; why no struct holds both is in docs/DESIGN-PASS.md, point 5.)
 #![tactic(auto)]
 
 mod append;

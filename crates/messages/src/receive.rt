@@ -23,6 +23,7 @@ pub fn run_bytes(
 {
     let fields = frame_reader::read(bytes)?;
     let d = arrive(n, fields, &terms[..], &orders[..])?;
+    // (What it may add: one test of the kind, so no match.)
     if fields.kind == Fields::VOTE_ANSWER {
         return finish_one(
             n,

@@ -1,4 +1,4 @@
-// "Vote answer", at a box that is in the answer's term.
+// "Vote answer", at a box that is in the answer's term. (The reply is its number in the frame, as in the definitions.)
 ghost use Rattle.raft.specs.Order.{blank};
 ghost use Rattle.raft.specs.VoteAnswer.{on_vote_answer};
 ghost use Rattle.record.specs.Calls.{state_of};

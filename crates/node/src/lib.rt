@@ -1,4 +1,5 @@
-// A box: a constructor and one method for each event, on any record and any bytes. The log is lent by the caller, as terms and orders, entry i at place i-1.
+// A box: a constructor and one method for each event, on any record and any bytes. The log is lent by the caller, as terms and orders, entry i at place i-1
+// (apart, as C lends it; why no struct holds both is in docs/DESIGN-PASS.md, point 5).
 #![tactic(auto)]
 
 ghost use Rattle.std.specs.Prelude.{◌≡◌, List, ℕ, ◌≤◌, length};

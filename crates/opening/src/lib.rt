@@ -1,4 +1,5 @@
 // A box's journal, opened: whole at once, or line by line for one that is longer than memory.
+// (The log is lent as C lends it, terms and orders apart; why no struct holds both is in docs/DESIGN-PASS.md, point 5.)
 #![tactic(auto)]
 
 ghost use Rattle.std.specs.Prelude.{◌≡◌, Err};

@@ -7,7 +7,7 @@ ghost use Rattle.record.specs.Calls.{record_of};
 
 use frames::Fields;
 
-// What a leader alone has: next and match for each box, box i's at place i-1.
+// What a leader alone has: next and match for each box, box i's at place i-1. (Two lists, as in 01's record and C's numbers: "next and then match of the seven boxes".)
 #[derive(Clone, Copy)]
 pub struct Lead {
     pub next: [u16; Record::BOXES],
@@ -28,7 +28,8 @@ impl Lead {
 }
 
 // The box's record, but for its log, which the caller lends: `last` counts its entries. What is read by itself comes first and what is only
-// copied last, here and in the answers: a copy that cuts elsewhere than the one before it has to wait for it (docs/BENCH.md).
+// copied last, here and in the answers: a copy that cuts elsewhere than the one before it has to wait for it (docs/BENCH.md). A role is a number: a record is whatever
+// the caller hands over, and one whose role is none of the three is answered 12 (`Calls` of `Node`'s methods), so an enum would ask more.
 #[derive(Clone, Copy)]
 pub struct Record {
     pub term: u32,
@@ -82,7 +83,7 @@ impl Record {
     }
 }
 
-// What a step sends. An answer's reply is 1, yes, or 0, no.
+// What a step sends. An answer's reply is 1, yes, or 0, no: its number in the frame, which the rules' definitions are over.
 #[derive(Clone, Copy)]
 pub enum Send {
     Nothing,
