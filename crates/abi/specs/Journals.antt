@@ -1,12 +1,14 @@
 -- Opening a journal, for callers in C and Rust. Assumes nothing.
-use Rattle.std.specs.Prelude.{ℕ, ◌≡◌, true, cond, List, eqb, set, Result, Ok, Err}
+use Rattle.std.specs.Prelude.{ℕ, ◌≡◌, Bool, true, not, cond, List, eqb, set, Result, Ok, Err}
+use Rattle.std.proofs.Common.{sym, ◌∙◌}
+use borrow.Author.Tests.{not-true}
 use Rattle.frames.specs.declared.refusal.Refusal.{Refusal}
 use Rattle.frames.specs.Refusal.{code}
 use Rattle.frames.specs.RefusalLaws.{refused}
 use Rattle.record.specs.declared.Record.{Record}
 use Rattle.opening.specs.declared.Opened.{Opened}
 use Rattle.opening.specs.declared.Unopened.{Unopened}
-use Rattle.opening.specs.Calls.{Replaying, replaying, Replays, OpenedTold, told_open, Opening, opens}
+use Rattle.opening.specs.Calls.{Replaying, replaying, Replays, OpenedTold, told_open, Opening, opens, Opens}
 use Rattle.flat.specs.Box.{box_range, box_in, box_flat}
 
 -- What opening answers, and everything that was lent: on a refusal the numbers are as they were.
@@ -81,7 +83,18 @@ FlatReplays text n terms orders r n' terms' orders' =
 
 -- ---- what the code comes to
 
+pub opens-flat : (me : ℕ) (text n terms orders sizes : List ℕ) (o : Result Opened Unopened) {r : ℕ} {n' terms' orders' sizes' : List ℕ}
+    → Opens me text terms orders o terms' orders' → StoresOpen o n sizes r n' sizes'
+    → FlatOpens me text n terms orders sizes r n' terms' orders' sizes'
+unfolding journal_opens
+opens-flat me text n terms orders sizes o e s = rw (← e, s.number, s.numbers, s.lengths)
+
 module _ (text n terms orders : List ℕ) where
+  -- numbers that do not fit are no record
+  pub replays-none : {fits : Bool} → fits ≡ box_range n → not fits ≡ true → FlatReplays text n terms orders 12 n terms orders
+  unfolding journal_replays
+  replays-none {fits} t h = rw (sym t ∙ not-true fits h)
+
   pub replays-flat : {r : ℕ} {n' terms' orders' : List ℕ} → box_range n ≡ true → (b : Record) (o : Result Record Refusal) → b ≡ box_in n
       → Replays b text terms orders o terms' orders' → StoresReplay o n r n' → FlatReplays text n terms orders r n' terms' orders'
   unfolding journal_replays

@@ -1,5 +1,5 @@
 -- Block by block: a head alone, and the lines of a block one after the other. Assumes nothing.
-use Rattle.std.specs.Prelude.{ℕ, ◌+◌, ◌-◌, ◌≤◌, Bool, List, take, drop, Ok, Err}
+use Rattle.std.specs.Prelude.{ℕ, ◌+◌, ◌-◌, ◌≤◌, Bool, cond, List, take, drop, Ok, Err}
 use Rattle.std.proofs.Common.{arith, ◌∙◌}
 use Rattle.std.proofs.Math.Path.{◌≡◌, refl, sym, ap}
 use Rattle.std.proofs.Math.Bool.{true, false}
@@ -11,13 +11,37 @@ use Rattle.text.specs.Lines.{first_line}
 use Rattle.text.specs.LinesLaws.{first-most, end_inside}
 use Rattle.raft.specs.Record.{fresh}
 use Rattle.record.specs.declared.Record.{Record}
-use Rattle.journal.specs.Lines.{lines}
+use Rattle.record.specs.Calls.{record_of}
+use Rattle.journal.specs.Lines.{lines, mask_in}
 use Rattle.journal.specs.Opening.{is_head}
 use Rattle.opening.specs.Calls.{ReplayedTold, Replays, heading, Heads, Blocks, stopped, replay_each, replaying_lines, ReplaysLines}
 use Rattle.opening.specs.ToldLaws.{not_0}
 use Rattle.opening.specs.ReplayCode.{line-goes, broken-number, broken-leaves, lines_end, lines_next}
+use Rattle.opening.specs.OpenCode.{head-mask}
 
 -- ---- the head
+
+-- None, or one: its mask is told by a number, 0 where there is none.
+module _ (me : ℕ) (line : List ℕ) {mask : ℕ} (f : mask ≡ cond (is_head me line) (mask_in line) 0) where
+  pub no_head : mask ≡ 0 → {n : Record} → n ≡ record_of (fresh 0 0)
+      → ◌≡◌ {A = ReplayedTold} (record { refusal = 11; state = n }) (heading me line)
+  unfolding heading
+  no_head z {n} e = go (is_head me line) refl
+    where
+      go : (b : Bool) → is_head me line ≡ b → ◌≡◌ {A = ReplayedTold} (record { refusal = 11; state = n }) (heading me line)
+      go true q = absurd (head-mask me line q (sym (f ∙ rw q) ∙ z))
+      go false q = rw (q, e)
+
+  pub a-head : (mask ≡ 0 → ⊥) → {n : Record} → n ≡ record_of (fresh me mask)
+      → ◌≡◌ {A = ReplayedTold} (record { refusal = 0; state = n }) (heading me line)
+  unfolding heading
+  a-head z {n} e = go (is_head me line) refl
+    where
+      go : (b : Bool) → is_head me line ≡ b → ◌≡◌ {A = ReplayedTold} (record { refusal = 0; state = n }) (heading me line)
+      go true q =
+          let m : mask ≡ mask_in line = f ∙ rw q in
+          rw (q, e, m)
+      go false q = absurd (z (f ∙ rw q))
 
 -- Its record's log fits,
 pub heading-fits : (me : ℕ) (line : List ℕ) → (heading me line).state.last ≤ log_limit

@@ -21,6 +21,11 @@ use Rattle.journal.specs.Lines.{lines, mask_in, count_in, line_shaped}
 use Rattle.journal.specs.Opening.{restarted, is_of_box, term_holds, vote_is, vote_stays, Replayed, next, breaks, replayed}
 use Rattle.journal.specs.Opening.{Opened, opened, headless, broken, is_head, opening}
 
+-- The log is lent whole.
+pub record LentLog (terms orders : List ℕ) : Type 0 where
+  pub terms_long : length terms ≡ log_limit
+  pub orders_long : length orders ≡ log_limit
+
 -- ---- one line
 
 -- What the look at a line's rules requires: the log's terms are lent whole, and the line has no more entries than a line has.

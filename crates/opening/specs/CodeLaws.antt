@@ -1,8 +1,9 @@
 -- What the code's proofs use: whole lines, their form and fields, and their rules on the structs. Assumes nothing.
-use Rattle.std.specs.Prelude.{ℕ, suc, ◌+◌, ◌≤◌, ◌≡◌, refl, Bool, true, false, cond, ◌&&◌, ◌||◌, List, [], ◌∷◌, eqb, ltb, leb, length, take, Ok, Err}
-use Rattle.std.proofs.Common.{arith, sym, ap, ◌∙◌, eqb-true, leb-true}
+use Rattle.std.specs.Prelude.{ℕ, suc, ◌+◌, ◌*◌, ◌≤◌, ◌<◌, ◌≡◌, refl, Bool, true, false, cond, ◌&&◌, ◌||◌, List, [], ◌∷◌, eqb, ltb, leb, length, take, Ok, Err}
+use Rattle.std.proofs.Common.{arith, sym, ap, ◌∙◌, eqb-true, leb-true, eq-eqb, ne_eqb}
+use Rattle.std.proofs.Math.Bool.{and-true, and-false}
 use Rattle.std.proofs.lemmas.Bool.{eqb-false}
-use Rattle.digits.specs.Digits.{field}
+use Rattle.digits.specs.Digits.{field, run}
 use Rattle.digits.specs.Tests.{and_left, and_right}
 use Rattle.frames.specs.declared.Entry.{Entry}
 use Rattle.frames.specs.Limits.{log_limit, entry_limit}
@@ -13,14 +14,14 @@ use Rattle.frames.specs.Reading.{text_size, is_line, version, kind, entries_at}
 use Rattle.frames.specs.Fields.{listed, places}
 use Rattle.frames.specs.Clauses.{four}
 use Rattle.frames.specs.Laws.{length-listed}
-use Rattle.frames.proofs.ReadingLaws.{listed-places, length-entries}
+use Rattle.frames.proofs.ReadingLaws.{line-run, listed-places, length-entries}
 use Rattle.raft.proofs.SendLaws.{All}
-use Rattle.raft.specs.Record.{fresh, term_at, is_vote}
+use Rattle.raft.specs.Record.{fresh, term_at, is_membership, is_vote}
 use Rattle.raft.specs.LentLaws.{length-entries_of}
 use Rattle.record.specs.declared.Record.{Record}
 use Rattle.record.specs.Calls.{entries_of, state_of, record_of}
 use Rattle.opening.specs.declared.LineFields.{LineFields}
-use Rattle.journal.specs.Lines.{box_in, mask_in, count_in, line_in, head_shaped}
+use Rattle.journal.specs.Lines.{box_in, mask_in, count_in, line_shaped, line_in, head_shaped}
 use Rattle.journal.specs.Opening.{is_head, allows}
 use Rattle.journal.proofs.LinesLaws.{Feedless, Whole}
 use Rattle.text.specs.Lines.{first_line}
@@ -57,13 +58,46 @@ first-whole (b ∷ bytes) h = go (first-whole bytes) (eqb b line_feed) refl (eqb
         let rest = f (eqb-false (first_line bytes) 0 q) in
         record { front = b ∷ rest.front; free = (p, rest.free); ended = ap (λ (l : List ℕ). b ∷ l) rest.ended }
 
--- ---- a head
+-- ---- the form of a head
 
--- it is nine bytes long
+pub head-long : (s : List ℕ) → (length s ≡ 9 → ⊥) → head_shaped s ≡ false
+unfolding head_shaped
+head-long s h = rw (ne_eqb (length s) 9 h, and-false (is_line s && eqb (version s) 1 && eqb (kind s) 17))
+
+pub head-no_line : (s : List ℕ) → is_line s ≡ false → head_shaped s ≡ false
+unfolding head_shaped
+head-no_line s h = rw h
+
+pub head-by : (s : List ℕ) (v k : ℕ) → is_line s ≡ true → length s ≡ 9 → v ≡ version s → k ≡ kind s → (eqb v 1 && eqb k 17) ≡ head_shaped s
+unfolding head_shaped
+head-by s v k h l e f = rw (h, e, f, eq-eqb (length s) 9 l, and-true (eqb (version s) 1 && eqb (kind s) 17))
+
+-- a head has eight digits
+pub head-run : (s : List ℕ) → head_shaped s ≡ true → run s ≡ 8
+unfolding head_shaped
+head-run s h =
+    let t = four (is_line s) (eqb (version s) 1) (eqb (kind s) 17) (eqb (length s) (text_size 4)) h in
+    omega (arith, line-run s t.0, eqb-true (length s) 9 t.3)
+
 pub head_nine_long : (s : List ℕ) → head_shaped s ≡ true → length s ≡ 9
 unfolding head_shaped
 head_nine_long s h =
     eqb-true (length s) 9 (four (is_line s) (eqb (version s) 1) (eqb (kind s) 17) (eqb (length s) (text_size 4)) h).3
+
+-- the mask of a head for the box asked for, told by a number: 0 where the line is no such head
+pub head-not : (me : ℕ) (s : List ℕ) → head_shaped s ≡ false → 0 ≡ cond (is_head me s) (mask_in s) 0
+unfolding is_head
+head-not me s h = rw h
+
+pub head-is : (me : ℕ) (s : List ℕ) (b m : ℕ) (g : Bool) → head_shaped s ≡ true → b ≡ field s 4 1 → m ≡ field s 6 1 → g ≡ is_membership me m
+    → (eqb b me && g) ≡ true → m ≡ cond (is_head me s) (mask_in s) 0
+unfolding is_head box_in mask_in
+head-is me s b m g h e f k a = rw (h, ← e, ← f, ← k, a)
+
+pub head_another : (me : ℕ) (s : List ℕ) (b m : ℕ) (g : Bool) → head_shaped s ≡ true → b ≡ field s 4 1 → m ≡ field s 6 1 → g ≡ is_membership me m
+    → (eqb b me && g) ≡ false → 0 ≡ cond (is_head me s) (mask_in s) 0
+unfolding is_head box_in mask_in
+head_another me s b m g h e f k a = rw (h, ← e, ← f, ← k, a)
 
 -- what is known where one was read, and where none was
 module _ (me : ℕ) (line : List ℕ) where
@@ -83,9 +117,34 @@ module _ (me : ℕ) (line : List ℕ) where
       go true q = let told = rw q at e in absurd (not_0 why (ap (λ (x : ReplayedTold). x.refusal) told))
       go false q = q
 
--- ---- a line
+-- ---- the form of a line
 
--- its fields, at their places, are the line
+-- too short for one
+pub shaped-short : (s : List ℕ) → length s < 23 → line_shaped s ≡ false
+unfolding line_shaped
+shaped-short s h =
+    rw (ne_eqb (length s) (text_size (11 + 12 * count_in s)) (λ e. omega arith), and-false (is_line s && eqb (version s) 1 && eqb (kind s) 16))
+
+pub shaped-no_line : (s : List ℕ) → is_line s ≡ false → line_shaped s ≡ false
+unfolding line_shaped
+shaped-no_line s h = rw h
+
+pub shaped-by : (s : List ℕ) (v k c : ℕ) → is_line s ≡ true → v ≡ version s → k ≡ kind s → c ≡ count_in s
+    → (eqb v 1 && eqb k 16 && eqb (length s) (23 + 24 * c)) ≡ line_shaped s
+unfolding line_shaped
+shaped-by s v k c h e f g = rw (h, e, f, g) (ap (λ (n : ℕ). eqb (version s) 1 && eqb (kind s) 16 && eqb (length s) n) long)
+  where
+    long : 23 + 24 * count_in s ≡ text_size (11 + 12 * count_in s)
+    long = omega arith
+
+-- a line has all the digits that its count tells
+pub shaped-run : (s : List ℕ) → line_shaped s ≡ true → run s ≡ 22 + 24 * count_in s
+unfolding line_shaped
+shaped-run s h =
+    let t = four (is_line s) (eqb (version s) 1) (eqb (kind s) 16) (eqb (length s) (text_size (11 + 12 * count_in s))) h in
+    omega (arith, line-run s t.0, eqb-true (length s) (text_size (11 + 12 * count_in s)) t.3)
+
+-- and its fields, at their places, are the line
 pub fields-line : (s : List ℕ) (who term vote kept count : ℕ) (es : List Entry) → who ≡ field s 4 1 → term ≡ field s 6 4 → vote ≡ field s 14 1
     → kept ≡ field s 16 2 → count ≡ field s 20 1 → es ≡ places (entries_at s 22 count) → count_in s ≤ entry_limit
     → record { box = who; term = term; vote = vote; kept = kept; entries = listed es 0 count } ≡ line_in s

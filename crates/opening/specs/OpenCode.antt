@@ -1,7 +1,7 @@
 -- Opening a whole journal, as the code comes to it. Assumes nothing.
 use Rattle.std.specs.Prelude.{ℕ, ◌+◌, ◌-◌, ◌≤◌, ◌≡◌, Bool, ◌&&◌, List, [], ◌∷◌, ◌++◌, length, drop, Ok, Err}
 use Rattle.std.proofs.Math.Nat.{zero-add}
-use Rattle.std.proofs.Common.{arith, subst, ◌∙◌, length-take, length-take-le, take_all, length-drop, eqb-true}
+use Rattle.std.proofs.Common.{arith, subst, ◌∙◌, true≢false, length-take, length-take-le, take_all, length-drop, eqb-true}
 use mathlib.Core.List.{append-nil}
 use Rattle.std.proofs.Math.Path.{refl, sym, ap}
 use Rattle.std.proofs.Math.Bool.{true, false}
@@ -9,13 +9,15 @@ use Rattle.std.proofs.Math.Dec.{eqb}
 use Rattle.std.proofs.Math.ListN.{take}
 use Rattle.std.proofs.lemmas.Bool.{eqb-false}
 use Rattle.digits.specs.Room.{over}
-use Rattle.digits.specs.Tests.{and_left}
-use Rattle.frames.specs.Limits.{log_limit}
+use Rattle.digits.specs.Tests.{and_left, and_right}
+use Rattle.frames.specs.Limits.{boxes, log_limit}
 use Rattle.frames.specs.declared.refusal.Refusal.{Refusal}
 use Rattle.frames.specs.Refusal.{code}
 use Rattle.text.specs.Lines.{first_line}
 use Rattle.text.specs.LinesLaws.{first-most}
+use Rattle.raft.specs.Majority.{holds}
 use Rattle.raft.specs.Record.{State, fresh}
+use Rattle.raft.proofs.RecordLaws.{at-box, member-facts}
 use Rattle.raft.specs.Lent.{entries_of}
 use Rattle.raft.specs.LentLaws.{length-entries_of, terms_are, orders_are}
 use Rattle.record.specs.declared.Record.{Record}
@@ -31,6 +33,18 @@ use Rattle.opening.specs.ToldLaws.{not_0}
 use Rattle.opening.specs.CodeLaws.{head_nine_long}
 use Rattle.opening.specs.ReplayCode.{lines_end, lines_next}
 use Rattle.opening.specs.BlockLaws.{AllPassed, all_passed, OneBreaks, one-breaks, lines_few}
+
+-- nobody is in an empty mask
+held_none : (i : ℕ) → 1 ≤ i → i ≤ boxes → holds 0 i ≡ false
+unfolding holds
+held_none = at-box (λ i. holds 0 i ≡ false) refl refl refl refl refl refl refl
+
+-- so a head's mask is not 0
+pub head-mask : (me : ℕ) (s : List ℕ) → is_head me s ≡ true → mask_in s ≡ 0 → ⊥
+unfolding is_head
+head-mask me s h e =
+    let m = member-facts me (mask_in s) (and_right (head_shaped s && eqb (box_in s) me) _ h) in
+    true≢false (sym m.held ∙ rw e (held_none me m.least m.most))
 
 module _ (me : ℕ) (bytes : List ℕ) {end : ℕ} (e : end ≡ 0 + first_line (drop 0 bytes)) where
   -- no head

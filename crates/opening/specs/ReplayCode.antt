@@ -1,6 +1,7 @@
 -- One line and all lines, as the code comes to them: the answer, the record's struct and the lent log. Assumes nothing.
-use Rattle.std.specs.Prelude.{ℕ, ◌+◌, ◌≤◌, ◌<◌, min, ◌≡◌, Bool, cond, ◌&&◌, List, [], ◌∷◌, ◌++◌, leb, length, take, drop, Ok, Err}
-use Rattle.std.proofs.Common.{arith, ◌∙◌, true≢false, length-append, length-take, take-append-drop, length-take-le, drop-drop, leb-true}
+use Rattle.std.specs.Prelude.{ℕ, ◌+◌, ◌-◌, ◌≤◌, ◌<◌, min, ◌≡◌, Bool, cond, ◌&&◌, List, [], ◌∷◌, ◌++◌, leb, length, take, drop, Ok, Err}
+use Rattle.std.proofs.Common.{add-zero, arith, ◌∙◌, true≢false, length-append, length-take, take-append-drop, length-take-le, drop-drop, leb-true}
+use Rattle.std.proofs.Math.Nat.{sub-zero}
 use Rattle.std.proofs.Math.Path.{refl, sym, ap}
 use Rattle.std.proofs.Math.Bool.{true, false, and-false}
 use Rattle.digits.specs.Room.{over}
@@ -26,7 +27,7 @@ use Rattle.journal.proofs.LinesLaws.{lines_none, lines-first, counted_none, coun
 use Rattle.journal.specs.Opening.{restarted, is_of_box, term_holds, vote_is, vote_stays, kept_holds, count_holds, entries_hold, allows, after}
 use Rattle.journal.specs.Opening.{Replayed, next, breaks, replayed}
 use Rattle.opening.specs.declared.LineFields.{LineFields}
-use Rattle.opening.specs.Calls.{line_of, allows_numbers, Advances, ReplayedTold, Replaying, replaying_by, replaying, Tells, Replays}
+use Rattle.opening.specs.Calls.{LentLog, line_of, allows_numbers, Advances, ReplayedTold, Replaying, replaying_by, replaying, Tells, Replays}
 use Rattle.opening.specs.CodeLaws.{first-none, first-whole, allows-by, Numbers, numbers}
 
 -- ---- one line
@@ -50,6 +51,10 @@ module _ (b : Record) (bytes terms orders : List ℕ) where
   s = state_of b terms orders
 
   -- A line that breaks a rule is answered so, and all is as it was.
+  pub replay_unshaped : line_shaped bytes ≡ false → Replays b bytes terms orders (Err BadLine) terms orders
+  unfolding replaying replaying_by replayed
+  replay_unshaped h = rw h
+
   pub replay-refused : allows s (line_in bytes) ≡ false → Replays b bytes terms orders (Err BadLine) terms orders
   unfolding replaying replaying_by replayed
   replay-refused h = rw (h, and-false (line_shaped bytes))
@@ -65,7 +70,7 @@ module _ (b : Record) (bytes terms orders : List ℕ) where
 
   -- a good line
   module _ (l : LineFields) (h : line_shaped bytes ≡ true) (e : line_of l ≡ line_in bytes) (a : allows s (line_of l) ≡ true)
-      (terms_long : length terms ≡ log_limit) (orders_long : length orders ≡ log_limit) where
+      (lent : LentLog terms orders) where
     abbrev es : List Entry
     es = listed l.entries 0 l.count
 
@@ -95,26 +100,35 @@ module _ (b : Record) (bytes terms orders : List ℕ) where
     stored : (over terms l.kept (terms_of es) ≡ over terms 0 (terms_of log)) × (over orders l.kept (orders_of es) ≡ over orders 0 (orders_of log))
     stored =
         rw (← front) (
-          stored-terms terms orders l.kept l.kept es (omega arith) (omega (arith, fits.room, terms_long)) (omega (arith, fits.room, orders_long)),
-          stored-orders terms orders l.kept l.kept es (omega arith) (omega (arith, fits.room, terms_long)) (omega (arith, fits.room, orders_long)),
+          stored-terms terms orders l.kept l.kept es (omega arith) (omega (arith, fits.room, lent.terms_long)) (omega (arith, fits.room, lent.orders_long)),
+          stored-orders terms orders l.kept l.kept es (omega arith) (omega (arith, fits.room, lent.terms_long)) (omega (arith, fits.room, lent.orders_long)),
         )
 
     goes : replayed s bytes ≡ next (after s (line_of l))
     unfolding replayed
     goes = rw (h, ← e, a)
 
-    pub replay-next : {n : Record} {terms' orders' : List ℕ} → Advances b l n → l.count ≤ length l.entries
-        → terms' ≡ over terms l.kept (terms_of (take l.count l.entries)) → orders' ≡ over orders l.kept (orders_of (take l.count l.entries))
+    pub replay-next-listed : {n : Record} {terms' orders' : List ℕ} → Advances b l n
+        → terms' ≡ over terms (l.kept + 0) (terms_of (listed l.entries 0 (l.count - 0)))
+        → orders' ≡ over orders (l.kept + 0) (orders_of (listed l.entries 0 (l.count - 0)))
         → Replays b bytes terms orders (Ok n) terms' orders'
     unfolding replaying replaying_by after restarted
-    replay-next {n} {terms'} {orders'} f c t o = leaves ∙ sym (ap (λ (x : Replayed). replaying_by x b terms orders) goes)
+    replay-next-listed {n} {terms'} {orders'} f t o = leaves ∙ sym (ap (λ (x : Replayed). replaying_by x b terms orders) goes)
       where
         made : n ≡ record_of (after s (line_of l))
         made = record_same n log (long ∙ sym f.last) ∙ ap record_of (f.state log long)
 
         leaves : ◌≡◌ {A = Replaying} (record { answer = record { refusal = 0; state = n }; terms = terms'; orders = orders' })
             (replaying_by (next (after s (line_of l))) b terms orders)
-        leaves = rw (made, t, o, ← listed-take l.entries l.count c, stored.0, stored.1)
+        leaves = rw (made, t, o, add-zero, sub-zero, stored.0, stored.1)
+
+    -- the same, its entries being the first of those in the struct
+    pub replay-next : {n : Record} {terms' orders' : List ℕ} → Advances b l n → l.count ≤ length l.entries
+        → terms' ≡ over terms l.kept (terms_of (take l.count l.entries)) → orders' ≡ over orders l.kept (orders_of (take l.count l.entries))
+        → Replays b bytes terms orders (Ok n) terms' orders'
+    replay-next f c t o =
+        let all = sym (listed-take l.entries l.count c) in
+        replay-next-listed f (t ∙ rw (add-zero, sub-zero, all)) (o ∙ rw (add-zero, sub-zero, all))
 
 -- ---- what a line leaves
 

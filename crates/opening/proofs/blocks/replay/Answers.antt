@@ -2,6 +2,7 @@
 use native.Mathlib.Omega.{arith}
 use mathlib.Core.Path.{sym, ◌∙◌}
 use Rattle.journal.specs.Lines.{count_in}
+use Rattle.opening.specs.Calls.{LentLog}
 use Rattle.opening.specs.CodeLaws.{allowed-numbers}
 use Rattle.opening.specs.ReplayCode.{replay_many, replay-next}
 use Rattle.opening.proofs.blocks.replay.Goals as goal
@@ -30,5 +31,6 @@ pub returns : goal.returns
 returns c =
     let shaped = sym c.is_shaped.ensures ∙ c.if-not-is_shaped.false in
     let holds = sym (c.is_allowed.ensures c.args.orders.now) ∙ c.if-not-is_allowed.false in
-    let next = replay-next c.args.n c.args.line.now c.args.terms.now c.args.orders.now _ shaped c.line_fields-l.ensures.result_value holds c.told-terms c.told-orders in
+    let lent : LentLog c.args.terms.now c.args.orders.now = record { terms_long = c.told-terms; orders_long = c.told-orders } in
+    let next = replay-next c.args.n c.args.line.now c.args.terms.now c.args.orders.now _ shaped c.line_fields-l.ensures.result_value holds lent in
     next c.after.ensures (omega arith) c.store.ensures.terms_after c.store.ensures.orders_after
