@@ -20,7 +20,7 @@ fn put_opened(n: &mut [u64; 22], sizes: &mut [u64; 2], o: Result<Opened, Unopene
             if let Unopened::BadLine { line } = why {
                 sizes[1] = line as u64;
             }
-            why.refusal().number()
+            Refusal::from(why).number()
         }
     }
 }

@@ -9,8 +9,7 @@ use frames::Refusal;
 use printing::{put, put_refusal};
 use record::{Record, Started, Step};
 
-// "`t` (timeout), `p` (prompt)": the letter and its line feed. (No match of the line on patterns: its last arm does not tell which test failed, and the
-// definition asks for each.)
+// "`t` (timeout), `p` (prompt)": the letter and its line feed.
 fn is_letter(letter: u8, s: &[u8]) -> bool
     ensures { result ≡ definition.is_letter letter s.now }
 {
@@ -41,7 +40,8 @@ fn order_in(s: &[u8]) -> u64
     digits::get(&s[1..], 0)
 }
 
-// What a line comes to, at a record of which it is known whether it is good: 12, or the event that it asks for.
+// What a line comes to, at a record of which it is known whether it is good (looked at once for a block of lines): 12, or the event that it asks for. (No match of the line on
+// patterns: its last arm does not tell which test failed, and the definition asks for each.)
 fn step(
     n: Record,
     known: bool,

@@ -1,4 +1,4 @@
-// Before anything is written: the decision's refusal, the bytes of line and messages, and whether they fit.
+// Before anything is written: the bytes of line and messages, and whether they fit.
 ghost use Rattle.std.specs.Prelude.{◌≡◌, ◌≤◌};
 ghost use Rattle.record.specs.Deciding.{Aimed};
 ghost use Rattle.record.specs.Sizes.{is_silent, line_size, sent_size, roomy, measured, Measurable};
@@ -37,8 +37,8 @@ fn sent_size(send: Send, next: Record) -> usize
         Send::Requests => requests_size(next),
         Send::Appends => appends_size(next),
         Send::Append { to } => append_size(next, to),
-        Send::VoteAnswer { to, reply } => 19,
-        Send::AppendAnswer { to, reply, index } => 23,
+        Send::VoteAnswer { .. } => 19,
+        Send::AppendAnswer { .. } => 23,
     }
 }
 

@@ -1,8 +1,8 @@
 // A message as 17 numbers: kind, from, to, term, index, prior, commit, reply, count, and a term and an order for each of
 // four entries, with 0 for what it does not have.
 // (The C interface has an array of numbers, all of one width, so each field is put into its place by hand.)
-ghost use Rattle.std.specs.Prelude.{◌≡◌, ◌<◌, cond, get_or};
-ghost use Rattle.flat.specs.Message.{entry_at, in_range, fields_in, flat};
+ghost use Rattle.std.specs.Prelude.{◌≡◌, cond};
+ghost use Rattle.flat.specs.Message.{in_range, fields_in, flat};
 
 use frames::{Entry, Fields};
 
@@ -10,6 +10,10 @@ use frames::{Entry, Fields};
 pub fn put_flat(numbers: &mut [u64; 17], f: Fields)
     ensures { numbers.new ≡ flat f numbers.old }
 {
+    let a = f.entries[0];
+    let b = f.entries[1];
+    let c = f.entries[2];
+    let d = f.entries[3];
     numbers[0] = f.kind as u64;
     numbers[1] = f.from as u64;
     numbers[2] = f.to as u64;
@@ -19,14 +23,14 @@ pub fn put_flat(numbers: &mut [u64; 17], f: Fields)
     numbers[6] = f.commit as u64;
     numbers[7] = f.reply as u64;
     numbers[8] = f.count as u64;
-    numbers[9] = f.entries[0].term as u64;
-    numbers[10] = f.entries[0].order;
-    numbers[11] = f.entries[1].term as u64;
-    numbers[12] = f.entries[1].order;
-    numbers[13] = f.entries[2].term as u64;
-    numbers[14] = f.entries[2].order;
-    numbers[15] = f.entries[3].term as u64;
-    numbers[16] = f.entries[3].order;
+    numbers[9] = a.term as u64;
+    numbers[10] = a.order;
+    numbers[11] = b.term as u64;
+    numbers[12] = b.order;
+    numbers[13] = c.term as u64;
+    numbers[14] = c.order;
+    numbers[15] = d.term as u64;
+    numbers[16] = d.order;
 }
 
 // Each number fits the field that it is for: one test of all of them, as for a box.

@@ -28,7 +28,9 @@ fn is_headed(s: &[u8], kind: u8) -> bool
     requires { LineOf s.now kind }
     ensures { result ≡ reading.is_headed s.now }
 {
-    (digits::get::<u8>(s, 0) == 1) & (1 <= kind) & (kind <= 4)
+    (digits::get::<u8>(s, 0) == 1)
+        & (Fields::VOTE_REQUEST <= kind)
+        & (kind <= Fields::APPEND_ANSWER)
 }
 
 // Only an append has a count, behind its commit.

@@ -12,7 +12,7 @@ ghost use Rattle.frame_writer.specs.Writable.{Writable};
 
 use frames::{Entry, Fields, Refusal, is_frame, size, text_size};
 
-// "Every frame starts: 01, kind, from, to, term (4)."
+// "Every frame starts: 01, kind, from, to, term (4)." (The kind is its number, as in `Fields`.)
 fn put_start(room: &mut [u8], kind: u8, from: u8, to: u8, term: u32)
     requires { 16 ≤ length room.old }
     ensures { room.new ≡ over room.old 0 (spell (start kind from to term [])) }

@@ -1,4 +1,5 @@
 // 01's small program: a box on lines of text. It reads, has each line answered by the library, and prints.
+// (Terms and orders go apart, as the library lends them. `for _ in 0..u64::MAX` is a loop that ends: none here may wait for ever.)
 #![tactic(auto)]
 
 ghost use Rattle.std.specs.Prelude.{◌≤◌, length, IfOk};

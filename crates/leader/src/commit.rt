@@ -1,6 +1,7 @@
 // "Commit at a leader": the largest index above commit whose entry has the current term and which a majority matches.
 //
-// The largest index that a majority matches is one that some box matches, so seven tests find it, however long the log is.
+// The largest index that a majority matches is one that some box matches, so seven tests find it, however long the log is. (Seven calls in a row and no loop: the definitions
+// are so, and need no invariant.)
 ghost use Rattle.std.specs.Prelude.{◌≡◌, true, List, [], ◌∷◌, ◌++◌, ℕ, ◌+◌, ◌≤◌};
 ghost use Rattle.frames.specs.Limits.{IsBox};
 ghost use Rattle.raft.specs.Majority.{bit};

@@ -27,7 +27,7 @@ fn next_after(n: Record, i: u8) -> u16
     0
 }
 
-// "Next = last index + 1, match = 0 for the others"
+// "Next = last index + 1, match = 0 for the others" (Seven calls in a row, as the definition has them.)
 fn leading(n: Record) -> Record
     requires { n.last ≤ log_limit }
     ensures { Becomes n result leading }

@@ -1,4 +1,4 @@
-// "Append answer", at a box that is in the answer's term. (The reply is its number in the frame, as in the definitions.)
+// "Append answer", at a box that is in the answer's term. (The reply is its number in the frame: a `bool` would be made a number again in the next call and in each clause.)
 ghost use Rattle.std.specs.Prelude.{◌≡◌, List, ℕ};
 ghost use Rattle.frames.specs.declared.Entry.{Entry};
 ghost use Rattle.frames.specs.Limits.{IsBox};

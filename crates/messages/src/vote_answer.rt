@@ -1,4 +1,4 @@
-// "Vote answer", at a box that is in the answer's term. (The reply is its number in the frame, as in the definitions.)
+// "Vote answer", at a box that is in the answer's term. (The reply is its number in the frame: a `bool` would be made a number again in the next call and in each clause.)
 ghost use Rattle.raft.specs.Order.{blank};
 ghost use Rattle.raft.specs.VoteAnswer.{on_vote_answer};
 ghost use Rattle.record.specs.Calls.{state_of};

@@ -1,5 +1,5 @@
 // A box: a constructor and one method for each event, on any record and any bytes. The log is lent by the caller, as terms and orders, entry i at place i-1
-// (apart, as C lends it; why no struct holds both is in docs/DESIGN-PASS.md, point 5).
+// (apart, as C lends it: of a struct of two `&mut` each contract would have to say that both are still the ones lent; so the two rooms).
 #![tactic(auto)]
 
 ghost use Rattle.std.specs.Prelude.{◌≡◌, List, ℕ, ◌≤◌, length};
@@ -20,7 +20,7 @@ pub struct Node {
     pub state: Record,
 }
 
-// A step that is done, with the box around its record.
+// A step that is done, with the box around its record. (No `From`: both structs are `record`'s.)
 fn boxed(done: Step<Record>) -> Step<Node>
     ensures { result ≡ record { next = record { state = done.next }; line = done.line; sent = done.sent } }
 {

@@ -63,8 +63,8 @@ pub fn replay(
     Ok(after(n, l))
 }
 
-// The whole lines of some bytes over a record, up to the first that breaks a rule. (A loop from line end to line end, with the lines and bytes so far: the
-// answer is these, also where it stops, and a `for` over the lines is no plainer.)
+// The whole lines of some bytes over a record, up to the first that breaks a rule. (A loop from line end to line end, since lines and bytes so far are the answer also where it
+// stops.)
 pub fn replay_lines(
     n: Record,
     bytes: &[u8],

@@ -1,5 +1,6 @@
 // A box's journal, opened: whole at once, or line by line for one that is longer than memory.
-// (The log is lent as C lends it, terms and orders apart; why no struct holds both is in docs/DESIGN-PASS.md, point 5.)
+// (The log is lent as C lends it, terms and orders apart: of a struct of two `&mut` each contract would have to say that both are still the ones lent.
+// So are the two rooms. What callers have shown is required by name, as `Ready`: a type that holds the fact would ask more of them.)
 #![tactic(auto)]
 
 ghost use Rattle.std.specs.Prelude.{◌≡◌, Err};
@@ -44,12 +45,12 @@ pub enum Unopened {
     BadLine { line: usize },
 }
 
-impl Unopened {
-    // 01's refusal.
-    pub fn refusal(self) -> Refusal
-        ensures { number result ≡ (told_open (Err self)).refusal }
-    {
-        match self {
+// 01's refusal.
+impl From<Unopened> for Refusal {
+    ghost from_gives = { λ why r. number r ≡ (told_open (Err why)).refusal };
+
+    fn from(why: Unopened) -> Refusal {
+        match why {
             Unopened::NoHead => Refusal::NoHead,
             Unopened::BadLine { .. } => Refusal::BadLine,
         }

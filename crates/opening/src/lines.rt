@@ -23,7 +23,7 @@ pub fn is_head_shaped(s: &[u8]) -> bool
     if !frame_reader::is_line(s) {
         return false;
     }
-    (digits::get::<u8>(s, 0) == 1) & (digits::get::<u8>(s, 2) == 17)
+    (digits::get::<u8>(s, 0) == 1) & (digits::get::<u8>(s, 2) == Record::HEAD)
 }
 
 // The mask of a head for the box asked for, a membership that holds it.
@@ -51,7 +51,7 @@ pub fn is_shaped(s: &[u8]) -> bool
         return false;
     }
     (digits::get::<u8>(s, 0) == 1)
-        & (digits::get::<u8>(s, 2) == 16)
+        & (digits::get::<u8>(s, 2) == Record::LINE)
         & (s.len() == 23 + 24 * digits::get::<u8>(s, 20) as usize)
 }
 

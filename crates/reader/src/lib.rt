@@ -1,5 +1,6 @@
 // An input, the programs' standard input, in large blocks. The bytes of a line that is not whole yet stay at the block's start until the rest has come.
-// How much a block holds goes beside it as a number: a slice of what it holds has no room behind it to read into.
+// How much a block holds goes beside it as a number: a slice of what it holds has no room behind it to read into. (`for _ in 0..u64::MAX` is a loop that ends: none here
+// may wait for ever. A line's end is 0 where there is none, as in `text`.)
 #![tactic(auto)]
 
 ghost use Rattle.std.specs.Prelude.{◌+◌, ◌-◌, ◌≤◌, ◌<◌, ◌≡◌, IfSome, length, take, drop};

@@ -131,7 +131,7 @@ pub record Ready (b : Record) (terms orders : List ℕ) : Type 0 where
 -- ---- start, and what is handed out
 
 -- Starting. 12: "bad box or mask"; then 5; otherwise the fresh box, and the head at the room's start. Whoever is refused gets no box:
--- the struct holds zeros, which every event answers with 12.
+-- zeros are told of it.
 pub record StartTold : Type 0 where
   pub refusal : ℕ
   pub state : Record

@@ -29,7 +29,7 @@ impl Lead {
 
 // The box's record, but for its log, which the caller lends: `last` counts its entries. What is read by itself comes first and what is only
 // copied last, here and in the answers: a copy that cuts elsewhere than the one before it has to wait for it (docs/BENCH.md). A role is a number: a record is whatever
-// the caller hands over, and one whose role is none of the three is answered 12 (`Calls` of `Node`'s methods), so an enum would ask more.
+// the caller hands over, and one whose role is none of the three is answered 12 (`Calls` of `Node`'s methods), so an enum would ask more. So it is with the vote: 0 is nobody.
 #[derive(Clone, Copy)]
 pub struct Record {
     pub term: u32,
@@ -57,6 +57,11 @@ impl Record {
     // T-01: "an order of eight zero bytes", a new leader's.
     pub const BLANK: u64 = 0;
 
+    // A journal's kinds: "head 01, 11", and of a line "01, 10".
+    pub const HEAD: u8 = 0x11;
+
+    pub const LINE: u8 = 0x10;
+
     // Roles.
     pub const FOLLOWER: u8 = 0;
 
@@ -83,7 +88,7 @@ impl Record {
     }
 }
 
-// What a step sends. An answer's reply is 1, yes, or 0, no: its number in the frame, which the rules' definitions are over.
+// What a step sends. An answer's reply is 1, yes, or 0, no: its number in the frame. (`changes::step` and `finishing` take any: a `bool` would ask more.)
 #[derive(Clone, Copy)]
 pub enum Send {
     Nothing,

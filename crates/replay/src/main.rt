@@ -1,4 +1,5 @@
 // A look into a journal: the first line asks for a box, the rest is its journal. It reads, has the lines replayed by the library, and prints.
+// (Terms and orders go apart, as the library lends them. `for _ in 0..u64::MAX` is a loop that ends: none here may wait for ever.)
 #![tactic(auto)]
 
 ghost use Rattle.std.specs.Prelude.{◌≤◌, length, IfOk};

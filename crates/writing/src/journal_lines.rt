@@ -14,7 +14,7 @@ pub fn put_head(room: &mut [u8], me: u8, mask: u8)
     ensures { room.new ≡ over room.old 0 (head me mask) }
 {
     digits::put(room, 0, 1u8);
-    digits::put(room, 2, 17u8);
+    digits::put(room, 2, Record::HEAD);
     digits::put(room, 4, me);
     digits::put(room, 6, mask);
     frame_writer::put_end(room, 8);
@@ -27,7 +27,7 @@ fn put_line_start(room: &mut [u8], next: Record, kept: u16, count: u8)
         (spell (number 1 1 ∷ number 1 16 ∷ number 1 next.me ∷ number 4 next.term ∷ number 1 next.vote ∷ number 2 kept ∷ number 1 count ∷ [])) }
 {
     digits::put(room, 0, 1u8);
-    digits::put(room, 2, 16u8);
+    digits::put(room, 2, Record::LINE);
     digits::put(room, 4, next.me);
     digits::put(room, 6, next.term);
     digits::put(room, 14, next.vote);
