@@ -165,5 +165,9 @@ pub fn is_frame(f: Fields) -> bool
     if Fields::ENTRIES < f.count as usize {
         return false;
     }
-    (Fields::VOTE_REQUEST <= f.kind) & (f.kind <= Fields::APPEND_ANSWER) & obeys(f) & fields_unused(f) & entries_unused(f)
+    (Fields::VOTE_REQUEST <= f.kind)
+        & (f.kind <= Fields::APPEND_ANSWER)
+        & obeys(f)
+        & fields_unused(f)
+        & entries_unused(f)
 }

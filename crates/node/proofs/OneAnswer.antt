@@ -5,15 +5,14 @@
 use Prim.Native.Nat.{ℕ}
 use mathlib.Core.Path.{◌≡◌, sym, ap, ◌∙◌}
 use mathlib.Core.List.{List}
-use Rattle.std.specs.Prelude.{Result, Ok, Err}
+use Rattle.std.specs.Prelude.{Result}
 use Rattle.frames.specs.declared.refusal.Refusal.{Refusal}
-use Rattle.frames.specs.RefusalLaws.{one_number}
 use Rattle.record.specs.declared.Step.{Step}
-use Rattle.record.specs.declared.Started as declared
 use Rattle.record.specs.Calls.{Called, Begun}
-use Rattle.record.specs.TellingLaws.{not_done, handed_told_one}
+use Rattle.record.specs.TellingLaws.{handed_told_one}
 use Rattle.node.specs.declared.Node.{Node}
-use Rattle.node.specs.Outside.{Answer, told, Started, start_told}
+use Rattle.node.specs.Outside.{Answer, told}
+use Rattle.node.specs.TellingLaws.{told_one, start_told_one}
 use Rattle.node.proofs.Node.fresh.Reads as fresh
 use Rattle.node.proofs.Node.start.Reads as start
 use Rattle.node.proofs.Node.timeout.Reads as timeout
@@ -33,20 +32,8 @@ called r terms orders journal messages =
       messages = messages;
     }
 
--- The same number and values: the same answer,
-told_one : (n : Node) (r r' : Result (Step Node) Refusal) → told n r ≡ told n r' → r ≡ r'
-told_one n (Ok x) (Ok y) e = ap (λ (t : Answer). Ok (record { next = t.node; line = t.line; sent = t.sent })) e
-told_one n (Ok x) (Err s) e = absurd (not_done s (ap (λ (t : Answer). t.refusal) e))
-told_one n (Err r) (Ok y) e = absurd (not_done r (sym (ap (λ (t : Answer). t.refusal) e)))
-told_one n (Err r) (Err s) e = ap (λ (q : Refusal). Err q) (one_number r s (ap (λ (t : Answer). t.refusal) e))
-
-start_told_one : (r r' : Result (declared.Started Node) Refusal) → start_told r ≡ start_told r' → r ≡ r'
-start_told_one (Ok x) (Ok y) e = ap (λ (t : Started). Ok (record { fresh = t.node; bytes = t.bytes })) e
-start_told_one (Ok x) (Err s) e = absurd (not_done s (ap (λ (t : Started). t.refusal) e))
-start_told_one (Err r) (Ok y) e = absurd (not_done r (sym (ap (λ (t : Started). t.refusal) e)))
-start_told_one (Err r) (Err s) e = ap (λ (q : Refusal). Err q) (one_number r s (ap (λ (t : Started). t.refusal) e))
-
--- and the same lent things.
+-- The same number and values are the same answer (`TellingLaws`), and so are
+-- the lent things.
 same-called : (n : Node) (r r' : Result (Step Node) Refusal) {t t' o o' j j' m m' : List ℕ} → called (told n r) t o j m ≡ called (told n r') t' o' j' m'
     → (r ≡ r') × (t ≡ t') × (o ≡ o') × (j ≡ j') × (m ≡ m')
 same-called n r r' e = (
