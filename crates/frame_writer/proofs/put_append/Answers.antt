@@ -10,11 +10,6 @@ use Rattle.frames.specs.Laws.{length-listed, listed-take}
 use Rattle.frames.specs.WritingLaws.{chars, chars-entries, put_more, put-line}
 use Rattle.frame_writer.proofs.put_append.Goals as goal
 
-pub put_entries-requires : goal.put_entries-requires
-put_entries-requires c =
-    let same = listed-take c.args.f.entries c.args.f.count (omega arith) in
-    rw (← same, length-listed) (omega arith)
-
 pub returns : goal.returns
 unfolding table
 returns c =

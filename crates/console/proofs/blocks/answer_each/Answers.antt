@@ -8,17 +8,6 @@ pub loop-at-init : goal.loop-at-init
 loop-at-init c =
     record { reached = reached-first c.requires.knows; aside = refl }
 
-pub line_end-end-requires : goal.line_end-end-requires
-line_end-end-requires c = c.loop-at.invariant.reached.inside
-
-pub overflow_sub-room : goal.overflow_sub-room
-overflow_sub-room c =
-    omega (arith, c.loop-at.invariant.reached.within)
-
-pub shape_of-room-then-end-at : goal.shape_of-room-then-end-at
-shape_of-room-then-end-at c =
-    c.loop-at.invariant.reached.long
-
 pub returns-then-end-at : goal.returns-then-end-at
 returns-then-end-at c =
     let reached = c.loop-at.invariant.reached in
@@ -31,19 +20,10 @@ pub slice_bounds-answer_known-end : goal.slice_bounds-answer_known-end
 slice_bounds-answer_known-end c =
     end_inside c.loop-at.invariant.reached c.line_end-end.ensures
 
-pub answer_known-one-requires : goal.answer_known-one-requires
-answer_known-one-requires c =
-    let wide = rest-wide c.loop-at.invariant.reached c.line_end-end.ensures c.if-end-at.false in
-    record { knows = c.loop-at.invariant.reached.knows; roomy = record { answers = wide; aside = omega (arith, c.requires.aside, c.loop-at.invariant.aside) } }
-
 pub overflow_add-to : goal.overflow_add-to
 overflow_add-to c =
     let within = one-within c.loop-at.invariant.reached c.line_end-end.ensures c.if-end-at.false c.answer_known-one.ensures.answers_line in
     omega (arith, within, c.loop-at.invariant.reached.long, c.well_formed)
-
-pub loop-at-smaller : goal.loop-at-smaller
-loop-at-smaller c =
-    omega (arith, (block_goes c.loop-at.invariant.reached c.line_end-end.ensures c.if-end-at.false).further, end_inside c.loop-at.invariant.reached c.line_end-end.ensures)
 
 pub loop-at-preserved : goal.loop-at-preserved
 loop-at-preserved c =

@@ -7,11 +7,3 @@ use Rattle.console.proofs.lines.answer.Goals as goal
 pub returns-then-room-lt-LONGEST : goal.returns-then-room-lt-LONGEST
 returns-then-room-lt-LONGEST c =
     line-short c.args.line.now c.if-room-lt-LONGEST.true
-
-pub answer_known-requires : goal.answer_known-requires
-answer_known-requires c =
-    let known = c.is_good-known.ensures c.args.orders.now in
-    record {
-      knows = record { terms_long = search rules; orders_long = search rules; is = known };
-      roomy = record { answers = omega (arith, c.if-room-lt-LONGEST.false); aside = search rules };
-    }

@@ -32,9 +32,6 @@ returns-in-Ok c =
     let left = line-done c.args.line.now c.requires.knows c.requires.roomy c.in-Ok.ensures refl c.put.ensures in
     record { answers_line = left.0; known = left.1 }
 
-pub put_refusal-bytes-requires : goal.put_refusal-bytes-requires
-put_refusal-bytes-requires c = omega (arith, c.step.auto.journal, c.requires.roomy.answers)
-
 pub returns-in-Err : goal.returns-in-Err
 returns-in-Err c =
     let refused : number c.in-Err.refusal ≡ 0 → ⊥ = λ e. not_done c.in-Err.refusal (sym e) in

@@ -10,29 +10,17 @@ pub returns-then-not-known : goal.returns-then-not-known
 returns-then-not-known c =
     bad-left c.args.line.now c.args.journal.now c.args.messages.now (sym c.requires.is ∙ c.if-not-known.true)
 
-pub run_timeout-requires : goal.run_timeout-requires
-run_timeout-requires c = ready c.requires c.if-not-known.false
-
 pub returns-then-is_letter : goal.returns-then-is_letter
 returns-then-is_letter c =
     let good = ready c.requires c.if-not-known.false in
     let event = asks-timeout c.args.line.now (sym c.is_letter.ensures ∙ c.if-is_letter.true) in
     event-left c.args.line.now c.args.journal.now c.args.messages.now good times_out event c.run_timeout.result c.run_timeout.ensures
 
-pub run_prompt-requires : goal.run_prompt-requires
-run_prompt-requires c = ready c.requires c.if-not-known.false
-
 pub returns-then-is_letter-2 : goal.returns-then-is_letter-2
 returns-then-is_letter-2 c =
     let good = ready c.requires c.if-not-known.false in
     let event = asks-prompt c.args.line.now (sym c.is_letter.ensures ∙ c.if-is_letter.false) (sym c.is_letter-2.ensures ∙ c.if-is_letter-2.true) in
     event-left c.args.line.now c.args.journal.now c.args.messages.now good is_prompted event c.run_prompt.result c.run_prompt.ensures
-
-pub order_in-requires : goal.order_in-requires
-order_in-requires c = sym c.is_order.ensures ∙ c.if-is_order.true
-
-pub run_order-requires : goal.run_order-requires
-run_order-requires c = ready c.requires c.if-not-known.false
 
 pub returns-then-is_order : goal.returns-then-is_order
 returns-then-is_order c =
@@ -42,9 +30,6 @@ returns-then-is_order c =
     let event = asks-order c.args.line.now no-timeout no-prompt (sym c.is_order.ensures ∙ c.if-is_order.true) in
     event-left c.args.line.now c.args.journal.now c.args.messages.now good (takes_order _) (event ∙ ap takes_order (sym c.order_in.ensures))
     c.run_order.result c.run_order.ensures
-
-pub run_bytes-requires : goal.run_bytes-requires
-run_bytes-requires c = ready c.requires c.if-not-known.false
 
 pub returns : goal.returns
 returns c =

@@ -8,10 +8,6 @@ pub returns-then-line-eq0 : goal.returns-then-line-eq0
 returns-then-line-eq0 c =
     λ n d same kept size. line-none n d c.args.terms.now c.args.orders.now c.args.journal.now (sym c.if-line-eq0.true ∙ size)
 
-pub put_line-requires : goal.put_line-requires
-put_line-requires c =
-    record { tellable = c.requires.tellable; in_room = c.requires.in_room c.if-line-eq0.false }
-
 pub returns : goal.returns
 unfolding line_bytes
 returns c =

@@ -7,10 +7,6 @@ use Rattle.record.specs.Sizes.{sent_size}
 use Rattle.record.specs.SizeLaws.{over_none, texts-one, asked}
 use Rattle.finishing.proofs.bytes.put_messages.Goals as goal
 
-pub term_at-requires : goal.term_at-requires
-term_at-requires c =
-    c.requires.sendable.in_terms
-
 pub put_requests-requires : goal.put_requests-requires
 unfolding sent_size
 put_requests-requires c =

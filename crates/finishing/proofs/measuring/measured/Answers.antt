@@ -3,12 +3,6 @@ use mathlib.Core.Path.{sym, ◌∙◌}
 use Rattle.record.specs.Sizes.{measured}
 use Rattle.finishing.proofs.measuring.measured.Goals as goal
 
-pub line_size-line-requires : goal.line_size-line-requires
-line_size-line-requires c = c.requires.low
-
-pub sent_size-sent-requires : goal.sent_size-sent-requires
-sent_size-sent-requires c = c.requires.aimed
-
 pub returns-then-not-fits : goal.returns-then-not-fits
 unfolding measured
 returns-then-not-fits c =

@@ -8,14 +8,6 @@ use Rattle.record.specs.DecidingLaws.{changed-decides}
 use Rattle.messages.specs.AppendLaws.{own-long, own-found, place-least, accept-held, accept_alarm, accept-adds}
 use Rattle.messages.proofs.append.accept.Goals as goal
 
-pub overflow_add-end : goal.overflow_add-end
-overflow_add-end c =
-    omega (arith, c.requires.offered.room)
-
-pub search-place-requires : goal.search-place-requires
-search-place-requires c =
-    omega (arith, own-long c.requires.offered.lent c.args.terms.now, c.requires.joint)
-
 pub returns-then-place-end : goal.returns-then-place-end
 unfolding messages_of Aimed
 returns-then-place-end c =
@@ -23,10 +15,6 @@ returns-then-place-end c =
     (changed-decides c.args.t _ c.args.entries.now c.args.terms.now orders (Send.AppendAnswer c.args.from 1 _) c.following-next.ensures.last c.requires.offered.lent.last tt
     (accept-held c.args.t c.args.terms.now orders c.args.from c.args.index c.args.commit c.args.entries.now _ (own-found c.requires.offered.lent orders c.args.index c.args.entries.now (c.search-place.ensures.by_index orders))
     _ c.following-next.ensures _ c.commit_after.ensures c.if-place-end.true))
-
-pub cuts_committed-requires : goal.cuts_committed-requires
-cuts_committed-requires c =
-    omega (arith, c.search-place.ensures.upper_bound, c.requires.offered.room)
 
 pub returns-then-cuts_committed : goal.returns-then-cuts_committed
 returns-then-cuts_committed c =

@@ -47,10 +47,6 @@ settled-next-requires c =
           c.requires c.if-t-ne-LEADER.false known);
     }
 
-pub sends_again-requires : goal.sends_again-requires
-sends_again-requires c =
-    c.requires.sender.box
-
 pub returns-then-sends_again : goal.returns-then-sends_again
 unfolding messages_of Aimed
 returns-then-sends_again c =

@@ -2,9 +2,6 @@
 use Rattle.raft.specs.Receive.{is_for}
 use Rattle.messages.proofs.deliver.is_for.Goals as goal
 
-pub is_other-requires : goal.is_other-requires
-is_other-requires c = c.requires
-
 pub returns : goal.returns
 unfolding is_for
 returns c = λ terms orders. rw c.is_other.ensures

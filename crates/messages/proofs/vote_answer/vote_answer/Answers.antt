@@ -17,10 +17,6 @@ returns-then-not-counts c =
     (plain-decides c.args.t _ c.args.terms.now c.args.orders.now Send.Nothing (ready-last c.requires.ready) tt
     (answer_idle s c.args.from c.args.reply (c.if-not-counts.true)))
 
-pub bit-requires : goal.bit-requires
-bit-requires c =
-    c.requires.sender.box
-
 pub returns-then-not-is_majority : goal.returns-then-not-is_majority
 unfolding messages_of Aimed counts adding
 returns-then-not-is_majority c =

@@ -7,10 +7,6 @@ use Rattle.record.specs.DecidingLaws.{plain-decides, changed-decides}
 use Rattle.messages.specs.VoteLaws.{request_yes, request_no}
 use Rattle.messages.proofs.vote_request.vote_request.Goals as goal
 
-pub term_at-own-requires : goal.term_at-own-requires
-term_at-own-requires c =
-    omega (arith, c.requires.long, c.requires.last)
-
 pub returns-then-is_granted : goal.returns-then-is_granted
 unfolding messages_of Aimed
 returns-then-is_granted c =

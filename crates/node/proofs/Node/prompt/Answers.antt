@@ -10,10 +10,6 @@ returns-in_err-look c =
     exit-bad c.args.self _ (is_prompted) c.args.terms.now c.args.orders.now c.args.journal.now c.args.messages.now
     c.from_residual.result c.from_residual.ensures.1 (c.in_err-look.ensures c.args.orders.now)
 
-pub run_prompt-requires : goal.run_prompt-requires
-run_prompt-requires c =
-    looked_ready c.args.self.state c.args.terms.now c.args.orders.now (c.in_ok-look.ensures c.args.orders.now) (search rules) (search rules)
-
 pub returns-in_err-run_prompt : goal.returns-in_err-run_prompt
 returns-in_err-run_prompt c =
     exit-runs c.args.self _ (is_prompted) c.args.terms.now c.args.orders.now c.args.journal.now c.args.messages.now

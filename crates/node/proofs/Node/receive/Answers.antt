@@ -10,10 +10,6 @@ returns-in_err-look c =
     exit-bad c.args.self _ (receives c.args.bytes.now) c.args.terms.now c.args.orders.now c.args.journal.now c.args.messages.now
     c.from_residual.result c.from_residual.ensures.1 (c.in_err-look.ensures c.args.orders.now)
 
-pub run_bytes-requires : goal.run_bytes-requires
-run_bytes-requires c =
-    looked_ready c.args.self.state c.args.terms.now c.args.orders.now (c.in_ok-look.ensures c.args.orders.now) (search rules) (search rules)
-
 pub returns-in_err-run_bytes : goal.returns-in_err-run_bytes
 returns-in_err-run_bytes c =
     exit-runs c.args.self _ (receives c.args.bytes.now) c.args.terms.now c.args.orders.now c.args.journal.now c.args.messages.now

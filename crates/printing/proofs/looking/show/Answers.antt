@@ -3,18 +3,6 @@ use native.Mathlib.Omega.{arith}
 use Rattle.printing.specs.LookingLaws.{shown-put}
 use Rattle.printing.proofs.looking.show.Goals as goal
 
-pub put_first-first-requires : goal.put_first-first-requires
-put_first-first-requires c =
-    omega (arith, c.requires.wide)
-
-pub put_log-requires : goal.put_log-requires
-put_log-requires c =
-    record {
-      terms_hold = omega (arith, c.requires.fits, c.requires.terms_long);
-      orders_hold = omega (arith, c.requires.fits, c.requires.orders_long);
-      wide = omega (arith, c.requires.fits, c.requires.wide, c.put_first-first.ensures.upper_bound, c.put_first-first.auto.room);
-    }
-
 pub returns : goal.returns
 returns c =
     let first = c.put_first-first.ensures in

@@ -18,11 +18,3 @@ loop-i-preserved c =
       terms_hold = store_next (λ e. e.term) c.args.terms.now c.args.added.now c.args.at c.loop-i.i (omega arith) (omega arith) c.loop-i.invariant.terms_hold;
       orders_hold = store_next (λ e. e.order) c.args.orders.now c.args.added.now c.args.at c.loop-i.i (omega arith) (omega arith) c.loop-i.invariant.orders_hold;
     }
-
-pub returns : goal.returns
-returns c =
-    let all : take c.loop-i.i c.args.added.now ≡ c.args.added.now = take_all _ _ (omega arith) in
-    record {
-      terms_after = c.loop-i.invariant.terms_hold ∙ ap (λ (es : List Entry). over c.args.terms.now c.args.at (terms_of es)) all;
-      orders_after = c.loop-i.invariant.orders_hold ∙ ap (λ (es : List Entry). over c.args.orders.now c.args.at (orders_of es)) all;
-    }

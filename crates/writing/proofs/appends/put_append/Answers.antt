@@ -6,19 +6,6 @@ use Rattle.digits.specs.Room.{over}
 use Rattle.record.specs.SizeLaws.{tells}
 use Rattle.writing.proofs.appends.put_append.Goals as goal
 
-pub term_at-requires : goal.term_at-requires
-term_at-requires c =
-    omega (arith, c.previous-index.ensures, c.requires.sendable.next c.args.i c.requires.to.box c.requires.to.other, c.requires.sendable.in_terms)
-
-pub put_append_from-requires : goal.put_append_from-requires
-put_append_from-requires c =
-    let next = c.requires.sendable.next c.args.i c.requires.to.box c.requires.to.other in
-    record {
-      in_terms = omega (arith, c.previous-index.ensures, c.entry_count.ensures.value, next, c.requires.sendable.in_terms);
-      in_orders = omega (arith, c.previous-index.ensures, c.entry_count.ensures.value, next, c.requires.sendable.in_orders);
-      in_room = rw (c.entry_count.ensures.value, c.previous-index.ensures) c.requires.in_room;
-    }
-
 pub returns : goal.returns
 returns c =
     let next = c.requires.sendable.next c.args.i c.requires.to.box c.requires.to.other in

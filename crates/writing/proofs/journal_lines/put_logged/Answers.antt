@@ -14,9 +14,3 @@ loop-i-init c = put-none _ _
 pub loop-i-preserved : goal.loop-i-preserved
 loop-i-preserved c =
     put_logged_next c.args.room.now c.args.at c.args.terms.now c.args.orders.now c.args.from c.loop-i.i (omega arith) c.loop-i.invariant c.put_entry.ensures
-
-pub returns : goal.returns
-returns c =
-    let all : c.loop-i.i ≡ c.args.count = omega arith in
-    c.loop-i.invariant
-    ∙ ap (λ (k : ℕ). over c.args.room.now c.args.at (spell (entry_fields (entries_of c.args.terms.now c.args.orders.now c.args.from k)))) all

@@ -77,9 +77,3 @@ loop-i-preserved g c =
                 skip_next c.args.n m c.args.room.now c.loop-i.room c.if-is_other.room c.loop-i.i (omega arith) (c.loop-i.invariant.text m h) none w.room-is;
           }
     ]
-
-pub returns : goal.returns
-returns g c =
-    λ m h.
-    let all : c.loop-i.i - 1 ≡ boxes = omega arith in
-    c.loop-i.invariant.text m h ∙ ap (λ (k : ℕ). over c.args.room.now 0 (others_to (with_entries c.args.n []) m k)) all

@@ -10,10 +10,6 @@ use Rattle.writing.proofs.others.shares.Goals as goal
 pub loop-i-init : goal.loop-i-init
 loop-i-init g c = record { low = omega arith; summed = λ share h. sym (shares-none c.args.n share) }
 
-pub overflow_add-bytes : goal.overflow_add-bytes
-overflow_add-bytes g c =
-    omega (arith, c.requires.low c.loop-i.i c.size-bytes.result (record { least = omega arith; most = omega arith }) c.size-bytes.ensures)
-
 pub loop-i-preserved : goal.loop-i-preserved
 loop-i-preserved g c =
     elim c.if-is_other.branch [
@@ -35,7 +31,3 @@ loop-i-preserved g c =
                 none w.bytes-is;
           }
     ]
-
-pub returns : goal.returns
-returns g c =
-    λ share h. let all : c.loop-i.i - 1 ≡ boxes = omega arith in c.loop-i.invariant.summed share h ∙ ap (shares c.args.n share) all
