@@ -1,5 +1,4 @@
 -- Numbers in range are the fields, and the writer answers for them.
-use Rattle.frames.specs.declared.refusal.Refusal.{Refusal}
 use Rattle.std.specs.Prelude.{Ok, Err}
 use Rattle.flat.specs.Message.{in_range, fields_in}
 use Rattle.flat.specs.Taken.{taken, not_taken}

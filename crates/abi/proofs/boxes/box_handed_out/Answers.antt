@@ -1,7 +1,6 @@
 -- 12 where a number does not fit; otherwise the box's answer, and the count is stored where it is 0.
 use mathlib.Core.Path.{◌≡◌, refl, sym}
 use Rattle.frames.specs.Refusal.{number}
-use Rattle.record.specs.Calls.{handed_told}
 use Rattle.record.specs.TellingLaws.{not_done}
 use Rattle.flat.specs.Box.{box_range, box_in}
 use Rattle.flat.specs.Taken.{taken, not_taken}

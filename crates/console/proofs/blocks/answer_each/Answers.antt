@@ -1,7 +1,7 @@
 -- What was answered and what is left make the whole (`block_next`); each turn takes a line.
 use native.Mathlib.Omega.{arith}
 use mathlib.Core.Path.{refl}
-use Rattle.console.specs.BlockLaws.{reached-first, end_inside, block_stops, block_goes, rest-wide, one-within, block_next}
+use Rattle.console.specs.BlockLaws.{reached-first, end_inside, block_stops, one-within, block_next}
 use Rattle.console.proofs.blocks.answer_each.Goals as goal
 
 pub loop-at-init : goal.loop-at-init

@@ -1,6 +1,4 @@
 -- Too little room, or the answer at a record that is looked at once.
-use borrow.Author.Rules.{rules}
-use native.Mathlib.Omega.{arith}
 use Rattle.console.specs.AnswerLaws.{line-short}
 use Rattle.console.proofs.lines.answer.Goals as goal
 

@@ -1,6 +1,5 @@
 -- Two stores, one behind the other, are one text (`stored_byte`).
 use native.Mathlib.Omega.{arith}
-use lib.ListN.{length-set}
 use Rattle.digits.specs.Digits.{digit}
 use Rattle.digits.specs.RoomLaws.{stored_byte}
 use Rattle.digits.proofs.U8Field.spell.Goals as goal

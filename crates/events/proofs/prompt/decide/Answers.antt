@@ -1,6 +1,5 @@
 -- The definition's two cases.
 use mathlib.Core.List.{[]}
-use mathlib.Core.Path.{refl}
 use borrow.Author.Tests.{eq-eqb, ne_eqb}
 use Rattle.raft.specs.Prompt.{prompt}
 use Rattle.record.specs.declared.Send.{Send}

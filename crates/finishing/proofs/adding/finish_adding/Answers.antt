@@ -1,7 +1,6 @@
 -- What the outcome leaves (`WrittenLaws`): a refusal nothing, the rest the new entries, its line and its messages.
-use native.Mathlib.Omega.{arith}
 use mathlib.Core.List.{List}
-use mathlib.Core.Path.{◌≡◌, refl, ap, sym, ◌∙◌}
+use mathlib.Core.Path.{refl, ap, sym, ◌∙◌}
 use Rattle.digits.specs.Room.{over}
 use Rattle.frames.specs.declared.Entry.{Entry}
 use Rattle.raft.specs.Lent.{terms_of, orders_of}

@@ -1,5 +1,4 @@
 -- What the outcome leaves (`WrittenLaws`): a refusal nothing, the rest its line and its messages; the log stays as it was.
-use native.Mathlib.Omega.{arith}
 use mathlib.Core.Path.{refl, sym}
 use Rattle.std.proofs.lemmas.Result.{err_from_is_err_and}
 use Rattle.record.specs.WrittenLaws.{fitting, refused-left, log-stays, adds_none-decided, lent-line, lent-messages, lent-left}

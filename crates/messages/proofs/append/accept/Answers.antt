@@ -1,11 +1,10 @@
 -- The search's place decides: all is held, alarm 7, or entries are added.
-use native.Mathlib.Omega.{arith}
 use mathlib.Core.Path.{refl, sym, ◌∙◌}
 use borrow.Author.Tests.{ltb-true, ltb-false}
 use Rattle.record.specs.declared.Send.{Send}
 use Rattle.record.specs.Deciding.{messages_of, Aimed}
 use Rattle.record.specs.DecidingLaws.{changed-decides}
-use Rattle.messages.specs.AppendLaws.{own-long, own-found, place-least, accept-held, accept_alarm, accept-adds}
+use Rattle.messages.specs.AppendLaws.{own-found, place-least, accept-held, accept_alarm, accept-adds}
 use Rattle.messages.proofs.append.accept.Goals as goal
 
 pub returns-then-place-end : goal.returns-then-place-end

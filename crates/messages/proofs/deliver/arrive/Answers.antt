@@ -1,9 +1,7 @@
 -- Not for this box is 2; otherwise it is delivered.
-use native.Mathlib.Omega.{arith}
 use mathlib.Core.Path.{sym, ◌∙◌}
 use Rattle.record.specs.Calls.{state_of}
 use Rattle.record.specs.DecidingLaws.{answers_as}
-use Rattle.messages.specs.Required.{brought}
 use Rattle.messages.specs.DeliverLaws.{from-box, arrive-not, arrive_for, read-delivered}
 use Rattle.messages.proofs.deliver.arrive.Goals as goal
 

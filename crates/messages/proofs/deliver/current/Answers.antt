@@ -10,7 +10,7 @@ use Rattle.raft.specs.Order.{blank}
 use Rattle.record.specs.Calls.{state_of}
 use Rattle.record.specs.DecidingLaws.{decides_as, answers_as, decides-term}
 use Rattle.messages.specs.Required.{brought, brings_blank, brings_own}
-use Rattle.messages.specs.DeliverLaws.{current_1, current_2, current_3, current_4, delivered-lent, delivered-from, delivered-offered}
+use Rattle.messages.specs.DeliverLaws.{current_1, current_2, current_3, current_4, delivered-lent, delivered-offered}
 use Rattle.messages.proofs.deliver.current.Goals as goal
 
 pub vote_request-requires : goal.vote_request-requires

@@ -1,8 +1,7 @@
 -- 12 where the record breaks a rule; otherwise the event decides.
 use mathlib.Core.Path.{◌∙◌}
-use borrow.Author.Rules.{rules}
 use Rattle.raft.specs.Event.{is_prompted}
-use Rattle.node.specs.LookLaws.{looked_ready, looked_good, exit-bad, exit-runs}
+use Rattle.node.specs.LookLaws.{looked_good, exit-bad, exit-runs}
 use Rattle.node.proofs.Node.prompt.Goals as goal
 
 pub returns-in_err-look : goal.returns-in_err-look

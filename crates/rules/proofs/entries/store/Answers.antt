@@ -1,8 +1,6 @@
 -- The entries up to a place are stored; the next goes behind them (`store_next`), in the terms and in the orders.
-use Rattle.std.proofs.Common.{◌≡◌, List, take, ap, ◌∙◌, take_all, arith}
-use Rattle.digits.specs.Room.{over}
+use Rattle.std.proofs.Common.{arith}
 use Rattle.digits.specs.RoomLaws.{over_nothing}
-use Rattle.frames.specs.declared.Entry.{Entry}
 use Rattle.raft.specs.Lent.{terms_of, orders_of}
 use Rattle.rules.specs.SearchLaws.{store_next}
 use Rattle.rules.proofs.entries.store.Goals as goal

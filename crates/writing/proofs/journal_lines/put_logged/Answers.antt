@@ -1,7 +1,6 @@
 -- The entries up to a place are written; the next goes behind them (`put_logged_next`).
-use Rattle.std.proofs.Common.{ℕ, ◌≡◌, ap, ◌∙◌, arith}
-use Rattle.digits.specs.Room.{over}
-use Rattle.frames.specs.Message.{entry_fields, spell}
+use Rattle.std.proofs.Common.{arith}
+use Rattle.frames.specs.Message.{entry_fields}
 use Rattle.frames.specs.WritingLaws.{put-none}
 use Rattle.raft.specs.Lent.{entries_of}
 use Rattle.record.specs.SizeLaws.{put_logged_next}

@@ -1,11 +1,10 @@
 -- The boxes before i have their messages, and box i gets its behind them (`put_next`); it fits there since all do (`fits_there`).
-use Rattle.std.proofs.Common.{◌≡◌, ℕ, [], ◌-◌, length, sym, ap, ◌∙◌, arith}
+use Rattle.std.proofs.Common.{[], length, sym, ap, ◌∙◌, arith}
 use Rattle.digits.specs.Room.{over}
-use Rattle.frames.specs.Limits.{boxes}
 use Rattle.frames.specs.Message.{text}
 use Rattle.record.specs.Calls.{with_entries}
 use Rattle.record.specs.Deciding.{OtherBox}
-use Rattle.record.specs.SizeLaws.{others_to, shares-none, to_nobody, over_nothing, rest-long}
+use Rattle.record.specs.SizeLaws.{shares-none, to_nobody, over_nothing, rest-long}
 use Rattle.writing.specs.Others.{fits_there, share_adds, share_skips, put_next, skip_next}
 use Rattle.writing.proofs.others.put_to_others.Goals.{then-is_other, else-is_other}
 use Rattle.writing.proofs.others.put_to_others.Goals as goal

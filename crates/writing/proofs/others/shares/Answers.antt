@@ -1,7 +1,6 @@
 -- The shares of the boxes before i, one more at each turn (`share_adds`, `share_skips`).
-use Rattle.std.proofs.Common.{◌≡◌, ◌-◌, sym, ap, ◌∙◌, arith}
-use Rattle.frames.specs.Limits.{IsBox, boxes}
-use Rattle.record.specs.Sizes.{shares}
+use Rattle.std.proofs.Common.{sym, ◌∙◌, arith}
+use Rattle.frames.specs.Limits.{IsBox}
 use Rattle.record.specs.SizeLaws.{shares-none}
 use Rattle.writing.specs.Others.{share_adds, share_skips}
 use Rattle.writing.proofs.others.shares.Goals.{then-is_other, else-is_other}
