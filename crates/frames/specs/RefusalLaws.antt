@@ -1,8 +1,9 @@
 -- A refusal's number tells it: no two have one, and none has 0. So a promise of the number is a promise of the refusal.
 use Rattle.std.specs.Prelude.{ℕ, ◌≡◌, false, cond, eqb, Result, Ok, Err}
-use Rattle.std.proofs.Common.{arith, refl, sym, ap, ◌∙◌}
+use Rattle.std.proofs.Common.{arith, refl, sym, ap, ◌∙◌, eq-eqb, true≢false}
 use Rattle.frames.specs.declared.refusal.Refusal.{Refusal}
-use Rattle.frames.specs.declared.refusal.Refusal.TheVariants.{NotAFrame, NotForThisBox, NotLeader, LogFull, NoRoom, SecondLeader, CutsCommitted, PastLog, LastTerm, BadLine, NoHead, BadRecord, BlankOrder}
+use Rattle.frames.specs.declared.refusal.Refusal.TheVariants.{NotAFrame, NotForThisBox, NotLeader, LogFull, NoRoom, SecondLeader}
+use Rattle.frames.specs.declared.refusal.Refusal.TheVariants.{CutsCommitted, PastLog, LastTerm, BadLine, NoHead, BadRecord, BlankOrder}
 use Rattle.frames.specs.Refusal.{number}
 
 pub refused : (r : Refusal) → eqb (number r) 0 ≡ false
@@ -20,10 +21,17 @@ refused NoHead = refl
 refused BadRecord = refl
 refused BlankOrder = refl
 
+-- So none is told by 0.
+pub not_0 : (r : Refusal) → number r ≡ 0 → ⊥
+not_0 r e = true≢false (sym (eq-eqb (number r) 0 e) ∙ refused r)
+
 -- The refusal of a number.
 abbrev named : ℕ → Refusal
 named n =
-    (cond (eqb n 1) NotAFrame (cond (eqb n 2) NotForThisBox (cond (eqb n 3) NotLeader (cond (eqb n 4) LogFull (cond (eqb n 5) NoRoom (cond (eqb n 6) SecondLeader (cond (eqb n 7) CutsCommitted (cond (eqb n 8) PastLog (cond (eqb n 9) LastTerm (cond (eqb n 10) BadLine (cond (eqb n 11) NoHead (cond (eqb n 12) BadRecord BlankOrder))))))))))))
+    (cond (eqb n 1) NotAFrame (cond (eqb n 2) NotForThisBox (cond (eqb n 3) NotLeader
+    (cond (eqb n 4) LogFull (cond (eqb n 5) NoRoom (cond (eqb n 6) SecondLeader
+    (cond (eqb n 7) CutsCommitted (cond (eqb n 8) PastLog (cond (eqb n 9) LastTerm
+    (cond (eqb n 10) BadLine (cond (eqb n 11) NoHead (cond (eqb n 12) BadRecord BlankOrder))))))))))))
 
 named_number : (r : Refusal) → named (number r) ≡ r
 named_number NotAFrame = refl

@@ -12,7 +12,7 @@ use Rattle.opening.specs.declared.Opened.{Opened}
 use Rattle.opening.specs.declared.Unopened.TheVariants.{NoHead, BadLine}
 use Rattle.opening.specs.declared.Block.{Block}
 use Rattle.opening.specs.Calls.{told_replay, none, Heads, Replays, ReplaysLines}
-use Rattle.opening.specs.ToldLaws.{not_0}
+use Rattle.frames.specs.RefusalLaws.{not_0}
 use Rattle.host.specs.Pieces.{Passed}
 use Rattle.host.specs.PiecesLaws.{passed_at, pieces_open, block_ends, block_breaks, breaking_line, head-refused}
 use Rattle.host.specs.Host.{Opening}

@@ -15,7 +15,7 @@ use Rattle.record.specs.Calls.{record_of}
 use Rattle.journal.specs.Lines.{lines, mask_in}
 use Rattle.journal.specs.Opening.{is_head}
 use Rattle.opening.specs.Calls.{ReplayedTold, Replays, heading, Heads, Blocks, stopped, replay_each, replaying_lines, ReplaysLines}
-use Rattle.opening.specs.ToldLaws.{not_0}
+use Rattle.frames.specs.RefusalLaws.{not_0}
 use Rattle.opening.specs.ReplayCode.{line-goes, broken-number, broken-leaves, lines_end, lines_next}
 use Rattle.opening.specs.OpenCode.{head-mask}
 

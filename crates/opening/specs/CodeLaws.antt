@@ -26,7 +26,7 @@ use Rattle.journal.specs.Opening.{is_head, allows}
 use Rattle.journal.proofs.LinesLaws.{Feedless, Whole}
 use Rattle.text.specs.Lines.{first_line}
 use Rattle.opening.specs.Calls.{ReplayedTold, heading, Heads, line_of, allows_numbers}
-use Rattle.opening.specs.ToldLaws.{not_0}
+use Rattle.frames.specs.RefusalLaws.{not_0}
 
 -- ---- where a line ends
 

@@ -29,7 +29,7 @@ use Rattle.journal.specs.Opening.{opened, headless, broken, replay, is_head, ope
 use Rattle.opening.specs.declared.Unopened.TheVariants.{NoHead, BadLine}
 use Rattle.opening.specs.declared.Block.{Block}
 use Rattle.opening.specs.Calls.{opening_by, opens, Opens, Blocks, told_block, replay_each, replaying_lines, ReplaysLines}
-use Rattle.opening.specs.ToldLaws.{not_0}
+use Rattle.frames.specs.RefusalLaws.{not_0}
 use Rattle.opening.specs.CodeLaws.{head_nine_long}
 use Rattle.opening.specs.ReplayCode.{lines_end, lines_next}
 use Rattle.opening.specs.BlockLaws.{AllPassed, all_passed, OneBreaks, one-breaks, lines_few}

@@ -1,19 +1,15 @@
 -- What is told of an answer is told of no other: so a promise of what is told leaves one answer. Assumes nothing.
 use Rattle.std.specs.Prelude.{◌≡◌, Result, Ok, Err}
-use Rattle.std.proofs.Common.{arith, refl, sym, ap, ◌∙◌, true≢false, eq-eqb}
+use Rattle.std.proofs.Common.{arith, refl, sym, ap, ◌∙◌}
 use Rattle.frames.specs.declared.refusal.Refusal.{Refusal}
-use Rattle.frames.specs.Refusal.{number, code}
-use Rattle.frames.specs.RefusalLaws.{refused, one_number}
+use Rattle.frames.specs.Refusal.{code}
+use Rattle.frames.specs.RefusalLaws.{not_0, one_number}
 use Rattle.record.specs.declared.Record.{Record}
 use Rattle.opening.specs.declared.Opened.{Opened}
 use Rattle.opening.specs.declared.Unopened.{Unopened}
 use Rattle.opening.specs.declared.Unopened.TheVariants.{NoHead, BadLine}
 use Rattle.opening.specs.declared.Block.{Block}
 use Rattle.opening.specs.Calls.{ReplayedTold, told_replay, OpenedTold, told_open, BlockTold, told_block}
-
--- no refusal is told by 0
-pub not_0 : (r : Refusal) → number r ≡ 0 → ⊥
-not_0 r e = true≢false (sym (eq-eqb (number r) 0 e) ∙ refused r)
 
 pub not_opened : (why : Unopened) → (told_open (Err why)).refusal ≡ 0 → ⊥
 not_opened NoHead e = omega (arith, e)

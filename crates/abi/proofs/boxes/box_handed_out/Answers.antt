@@ -1,7 +1,7 @@
 -- 12 where a number does not fit; otherwise the box's answer, and the count is stored where it is 0.
 use mathlib.Core.Path.{◌≡◌, refl, sym}
 use Rattle.frames.specs.Refusal.{number}
-use Rattle.record.specs.TellingLaws.{not_done}
+use Rattle.frames.specs.RefusalLaws.{not_0}
 use Rattle.flat.specs.Box.{box_range, box_in}
 use Rattle.flat.specs.Taken.{taken, not_taken}
 use Rattle.abi.specs.BoxLaws.{handed-none, handed-done, handed-refused}
@@ -21,7 +21,6 @@ returns-in-Ok c =
 pub returns-in-Err : goal.returns-in-Err
 returns-in-Err c =
     let box = taken (box_range c.args.n.now) (box_in c.args.n.now) c.in-Some.ensures in
-    let refused : number c.in-Err.refusal ≡ 0 → ⊥ = λ e. not_done c.in-Err.refusal (sym e) in
     rw c.number-in-Err.ensures
     (handed-refused c.args.n.now c.args.terms.now c.args.orders.now c.args.count.now box.0
-    c.in-Some.state box.1 _ c.in-Err.ensures refused)
+    c.in-Some.state box.1 _ c.in-Err.ensures (not_0 c.in-Err.refusal))

@@ -2,7 +2,7 @@
 use mathlib.Core.Path.{◌≡◌, refl, sym}
 use Rattle.std.specs.Prelude.{Ok, Err}
 use Rattle.frames.specs.Refusal.{number}
-use Rattle.record.specs.TellingLaws.{not_done}
+use Rattle.frames.specs.RefusalLaws.{not_0}
 use Rattle.node.specs.Outside.{start_told}
 use Rattle.abi.specs.BoxLaws.{start-done, start-refused}
 use Rattle.abi.proofs.boxes.box_start.Goals as goal
@@ -13,6 +13,5 @@ returns-in-Ok c =
 
 pub returns-in-Err : goal.returns-in-Err
 returns-in-Err c =
-    let refused : number c.in-Err.refusal ≡ 0 → ⊥ = λ e. not_done c.in-Err.refusal (sym e) in
     rw c.number.ensures
-    (start-refused c.args.me c.args.mask c.args.n.now c.args.room.now (start_told (Err c.in-Err.refusal)) c.in-Err.ensures refused)
+    (start-refused c.args.me c.args.mask c.args.n.now c.args.room.now (start_told (Err c.in-Err.refusal)) c.in-Err.ensures (not_0 c.in-Err.refusal))

@@ -3,7 +3,7 @@ use native.Mathlib.Omega.{arith}
 use mathlib.Core.Path.{◌≡◌, refl, sym}
 use Rattle.frames.specs.Refusal.{number}
 use lib.ListN.{length-take}
-use Rattle.record.specs.TellingLaws.{not_done}
+use Rattle.frames.specs.RefusalLaws.{not_0}
 use Rattle.console.specs.AnswerLaws.{step-sizes, line-done, line_refused}
 use Rattle.console.proofs.lines.answer_known.Goals as goal
 
@@ -34,6 +34,5 @@ returns-in-Ok c =
 
 pub returns-in-Err : goal.returns-in-Err
 returns-in-Err c =
-    let refused : number c.in-Err.refusal ≡ 0 → ⊥ = λ e. not_done c.in-Err.refusal (sym e) in
-    let left = line_refused c.args.line.now c.requires.knows c.requires.roomy c.in-Err.ensures refused (rw c.number.ensures at c.put_refusal-bytes.ensures) in
+    let left = line_refused c.args.line.now c.requires.knows c.requires.roomy c.in-Err.ensures (not_0 c.in-Err.refusal) (rw c.number.ensures at c.put_refusal-bytes.ensures) in
     record { answers_line = left.0; known = left.1 }

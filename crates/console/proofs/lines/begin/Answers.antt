@@ -2,7 +2,7 @@
 use native.Mathlib.Omega.{arith}
 use mathlib.Core.Path.{◌≡◌, refl, sym}
 use Rattle.frames.specs.Refusal.{number}
-use Rattle.record.specs.TellingLaws.{not_done}
+use Rattle.frames.specs.RefusalLaws.{not_0}
 use Rattle.console.specs.BeginLaws.{begin_short, start-bad, start-done, begin_within}
 use Rattle.console.proofs.lines.begin.Goals as goal
 
@@ -17,6 +17,5 @@ returns-in-Ok c =
 
 pub returns-in-Err : goal.returns-in-Err
 returns-in-Err c =
-    let refused : number c.in-Err.field-0 ≡ 0 → ⊥ = λ e. not_done c.in-Err.field-0 (sym e) in
-    let whole = start-bad c.args.line.now c.args.room.now (omega (arith, c.if-room-lt-LONGEST.false)) c.in-Err.ensures refused (rw c.number.ensures at c.put_refusal.ensures) in
+    let whole = start-bad c.args.line.now c.args.room.now (omega (arith, c.if-room-lt-LONGEST.false)) c.in-Err.ensures (not_0 c.in-Err.field-0) (rw c.number.ensures at c.put_refusal.ensures) in
     record { begins = whole; bytes_in_bounds = begin_within c.args.line.now c.args.room.now whole }
