@@ -1,6 +1,8 @@
 -- What is proved of digits and fields, once and over the width. Callers use these and never the definitions' text. Assumes nothing.
-use Rattle.std.specs.Prelude.{ℕ, zero, suc, ◌+◌, ◌-◌, ◌*◌, ◌/◌, ◌%◌, ◌^◌, ◌≤◌, ◌<◌, ◌≡◌, refl, Bool, true, false, not, ◌&&◌, ◌||◌, List, [], ◌∷◌, ◌++◌, eqb, leb, length, get_or, take, drop}
-use Rattle.std.proofs.Common.{add-zero, add-suc, suc-add, div-one, pow-suc, mod-lt, mod-eq_of_lt, div-lt_iff_lt-mul, mul_comm, mul-le-mul_right, one-add, add-one, arith, sym, ap, ◌∙◌, subst, append_assoc, append-nil, length-append, length-take, length-drop, drop_of_length-le, drop-cons, drop-drop, take-add, length-take-le, eqb-true, ltb-true}
+use Rattle.std.specs.Prelude.{ℕ, zero, suc, ◌+◌, ◌-◌, ◌*◌, ◌/◌, ◌%◌, ◌^◌, ◌≤◌, ◌<◌, ◌≡◌, refl, Bool}
+use Rattle.std.specs.Prelude.{true, false, not, ◌&&◌, ◌||◌, List, [], ◌∷◌, ◌++◌, eqb, leb, length, get_or, take, drop}
+use Rattle.std.proofs.Common.{add-zero, add-suc, suc-add, div-one, pow-suc, mod-lt, mod-eq_of_lt, div-lt_iff_lt-mul, mul_comm, mul-le-mul_right, one-add, add-one, arith, sym, ap, ◌∙◌, subst}
+use Rattle.std.proofs.Common.{append_assoc, append-nil, length-append, length-take, length-drop, drop_of_length-le, drop-cons, drop-drop, take-add, length-take-le, eqb-true, ltb-true}
 use Rattle.std.proofs.Math.Nat.{pow-zero, div-div-eq-div-mul}
 use Rattle.std.specs.Bool.{beq}
 use Rattle.std.proofs.Math.Bool.{and-true, and_assoc}

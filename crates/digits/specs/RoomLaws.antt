@@ -1,6 +1,7 @@
 -- What is proved of room that a caller lends. Assumes nothing.
 use Rattle.std.specs.Prelude.{ℕ, ◌+◌, ◌/◌, ◌%◌, ◌^◌, ◌≤◌, ◌<◌, ◌≡◌, List, [], ◌∷◌, ◌++◌, length, take, drop, set}
-use Rattle.std.proofs.Common.{add-zero, add_assoc, mod-eq_of_lt, add-one, arith, sym, ◌∙◌, append_assoc, append-nil, length-append, length-take, length-drop, take-append-drop, take_at, drop-drop}
+use Rattle.std.proofs.Common.{add-zero, add_assoc, mod-eq_of_lt, add-one, arith, sym, ◌∙◌, append_assoc, append-nil}
+use Rattle.std.proofs.Common.{length-append, length-take, length-drop, take-append-drop, take_at, drop-drop}
 use Rattle.std.proofs.Math.Seq.{drop-append-add}
 use Rattle.std.proofs.lemmas.List.Edits.{sets-eq}
 use Rattle.digits.specs.Digits.{digit, hex, big_endian, spelt}

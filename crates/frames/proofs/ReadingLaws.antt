@@ -1,5 +1,6 @@
 -- What is proved of reading, for the reader's proofs and for 'one spelling'. Assumes nothing.
-use Rattle.std.specs.Prelude.{ℕ, zero, suc, ◌+◌, ◌*◌, ◌≤◌, ◌<◌, ◌≡◌, refl, Bool, true, false, cond, ◌&&◌, List, [], ◌∷◌, ◌++◌, eqb, leb, length, get_or, take, Ok}
+use Rattle.std.specs.Prelude.{ℕ, zero, suc, ◌+◌, ◌*◌, ◌≤◌, ◌<◌, ◌≡◌, refl, Bool, true, false}
+use Rattle.std.specs.Prelude.{cond, ◌&&◌, List, [], ◌∷◌, ◌++◌, eqb, leb, length, get_or, take, Ok}
 use Rattle.std.proofs.Math.Seq.{take-append_seam, get_or-append_seam}
 use Rattle.std.proofs.Common.{add-zero, mul-zero, length-append, arith, sym, ap, ◌∙◌, true≢false, eqb-true, leb-true, ne_eqb, eq-eqb, le-leb}
 use Rattle.digits.specs.Digits.{field, run, all_digits}

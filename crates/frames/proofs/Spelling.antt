@@ -1,6 +1,8 @@
 -- The workings of 'a frame has one spelling': reading and writing are each other's inverse. Assumes nothing.
-use Rattle.std.specs.Prelude.{ℕ, zero, suc, ◌+◌, ◌^◌, ◌≤◌, ◌<◌, ◌≡◌, refl, Bool, true, false, ◌&&◌, ◌||◌, List, [], ◌∷◌, ◌++◌, eqb, ltb, length, get_or, take, drop}
-use Rattle.std.proofs.Common.{add_assoc, add-zero, zero-add, add-suc, suc-add, arith, sym, ◌∙◌, append_assoc, length-append, drop_of_length-le, take-add, take_at, drop_at, drop-drop, eqb-true, ltb-true, ltb-false}
+use Rattle.std.specs.Prelude.{ℕ, zero, suc, ◌+◌, ◌^◌, ◌≤◌, ◌<◌, ◌≡◌, refl, Bool, true, false}
+use Rattle.std.specs.Prelude.{◌&&◌, ◌||◌, List, [], ◌∷◌, ◌++◌, eqb, ltb, length, get_or, take, drop}
+use Rattle.std.proofs.Common.{add_assoc, add-zero, zero-add, add-suc, suc-add, arith, sym, ◌∙◌, append_assoc, length-append}
+use Rattle.std.proofs.Common.{drop_of_length-le, take-add, take_at, drop_at, drop-drop, eqb-true, ltb-true, ltb-false}
 use Rattle.std.proofs.Math.ListN.{get_or-eq_default}
 use Rattle.std.proofs.Math.Seq.{split_at, get_or-append_seam}
 use Rattle.digits.specs.Digits.{spelt, field, run, all_digits}

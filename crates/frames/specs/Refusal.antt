@@ -1,7 +1,8 @@
 -- "When the box says no": the numbers of 01's table, and what an answer's number is. Assumes nothing.
 use Rattle.std.specs.Prelude.{ℕ, Result, Ok, Err}
 use Rattle.frames.specs.declared.refusal.Refusal.{Refusal}
-use Rattle.frames.specs.declared.refusal.Refusal.TheVariants.{NotAFrame, NotForThisBox, NotLeader, LogFull, NoRoom, SecondLeader, CutsCommitted, PastLog, LastTerm, BadLine, NoHead, BadRecord, BlankOrder}
+use Rattle.frames.specs.declared.refusal.Refusal.TheVariants.{NotAFrame, NotForThisBox, NotLeader, LogFull, NoRoom, SecondLeader, CutsCommitted}
+use Rattle.frames.specs.declared.refusal.Refusal.TheVariants.{PastLog, LastTerm, BadLine, NoHead, BadRecord, BlankOrder}
 
 abbrev pub number : Refusal → ℕ
 number NotAFrame = 1

@@ -1,5 +1,6 @@
 -- What the code's proofs use of texts: one put at a place, a number's places, the line of a refusal. Assumes nothing.
-use Rattle.std.specs.Prelude.{ℕ, zero, suc, ◌+◌, ◌-◌, ◌/◌, ◌%◌, ◌^◌, ◌≤◌, ◌<◌, ◌≡◌, refl, Bool, true, false, cond, List, [], ◌∷◌, ◌++◌, ltb, length, set, take, drop}
+use Rattle.std.specs.Prelude.{ℕ, zero, suc, ◌+◌, ◌-◌, ◌/◌, ◌%◌, ◌^◌, ◌≤◌, ◌<◌, ◌≡◌}
+use Rattle.std.specs.Prelude.{refl, Bool, true, false, cond, List, [], ◌∷◌, ◌++◌, ltb, length, set, take, drop}
 use Rattle.std.proofs.Common.{arith, ◌∙◌, length-append, length-drop, take_at, ltb-true, lt-ltb, le-ltb, pow-suc, div-lt_iff_lt-mul, ap}
 use Rattle.std.proofs.Math.Seq.{take-length}
 use Rattle.std.specs.Fmt as library

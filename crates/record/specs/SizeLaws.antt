@@ -1,6 +1,7 @@
 -- How long messages are, and how they come to stand in the room one behind the other. Assumes nothing.
 use Rattle.std.specs.Prelude.{ℕ, zero, suc, ◌+◌, ◌-◌, ◌*◌, ◌≤◌, ◌<◌, ◌≡◌, refl, Bool, true, false, cond, List, [], ◌∷◌, ◌++◌, length, get_or, take, drop}
-use Rattle.std.proofs.Common.{zero-add, add-zero, add-suc, suc-add, add-one, arith, sym, ap, ◌∙◌, append_assoc, append-nil, length-append, length-take, length-drop, drop_of_length-le, drop-drop, take_all}
+use Rattle.std.proofs.Common.{zero-add, add-zero, add-suc, suc-add, add-one, arith, sym, ap, ◌∙◌, append_assoc, append-nil}
+use Rattle.std.proofs.Common.{length-append, length-take, length-drop, drop_of_length-le, drop-drop, take_all}
 use Rattle.std.proofs.Math.Decide.{dec_le}
 use Rattle.digits.specs.Room.{over}
 use Rattle.digits.specs.RoomLaws.{over-over}

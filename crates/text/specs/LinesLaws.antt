@@ -1,5 +1,6 @@
 -- What is proved of where a line ends. Assumes nothing.
-use Rattle.std.specs.Prelude.{ℕ, zero, suc, ◌+◌, ◌-◌, ◌*◌, ◌/◌, ◌≤◌, ◌<◌, ◌≡◌, refl, Bool, true, false, cond, not, Some, None, ◌&&◌, List, [], ◌∷◌, eqb, ltb, length, get_or, take, drop}
+use Rattle.std.specs.Prelude.{ℕ, zero, suc, ◌+◌, ◌-◌, ◌*◌, ◌/◌, ◌≤◌, ◌<◌, ◌≡◌, refl, Bool, true}
+use Rattle.std.specs.Prelude.{false, cond, not, Some, None, ◌&&◌, List, [], ◌∷◌, eqb, ltb, length, get_or, take, drop}
 use Rattle.std.proofs.Common.{add-zero, zero-add, add_assoc, add-one, arith, sym, subst, ◌∙◌, length-drop, drop-drop, drop_of_length-le, drop-cons, get_or-drop, eqb-true, eq-eqb, ne_eqb}
 use Rattle.std.proofs.Math.Path.{ap}
 use Rattle.std.proofs.Math.Bool.{and-true, and_assoc}
