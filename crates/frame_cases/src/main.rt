@@ -1,6 +1,6 @@
 // Reads cases from standard input, each ended by `;`, hands each to the frame reader, and prints what it got: `n1`, or the
 // fields in decimal (entries as their 24 digits), and on the next line the frame that the writer makes of them.
-// What cannot be written is passed over: whoever compares the output sees it.
+// What cannot be written is passed over, each piece by itself: whoever compares the output sees it.
 #![tactic(auto)]
 
 ghost use Rattle.std.specs.Prelude.{◌≤◌, length};
@@ -8,11 +8,29 @@ ghost use Rattle.std.specs.Prelude.{◌≤◌, length};
 use frames::{Entry, Fields, Refusal};
 use std::io::{Read, Write};
 
+// (`write!` of several pieces would pass over all that come behind the first that cannot be written.)
+fn piece<W: Write>(out: &mut W, text: &[u8]) {
+    let _ = out.write_all(text);
+}
+
+fn number<W: Write>(out: &mut W, n: u64) {
+    let _ = write!(out, "{n}");
+}
+
+// Each number behind a blank.
+fn numbers<W: Write>(out: &mut W, all: &[u64]) {
+    for n in all {
+        piece(out, b" ");
+        number(out, *n);
+    }
+}
+
 // The entry's 24 digits.
 fn entry<W: Write>(out: &mut W, e: &Entry) {
     let term = e.term;
     let order = e.order;
-    let _ = write!(out, " {term:08x}{order:016x}");
+    piece(out, b" ");
+    let _ = write!(out, "{term:08x}{order:016x}");
 }
 
 fn fields<W: Write>(out: &mut W, f: Fields) {
@@ -28,39 +46,36 @@ fn fields<W: Write>(out: &mut W, f: Fields) {
         count,
         entries,
     } = f;
-    let _ = write!(out, "{kind} {from} {to} {term}");
+    number(out, kind as u64);
+    numbers(out, &[from as u64, to as u64, term as u64]);
     match kind {
-        Fields::VOTE_REQUEST => {
-            let _ = write!(out, " {index} {prior}");
-        }
-        Fields::VOTE_ANSWER => {
-            let _ = write!(out, " {reply}");
-        }
+        Fields::VOTE_REQUEST => numbers(out, &[index as u64, prior as u64]),
+        Fields::VOTE_ANSWER => numbers(out, &[reply as u64]),
         Fields::APPEND => {
-            let _ = write!(out, " {index} {prior} {commit} {count}");
+            numbers(
+                out,
+                &[index as u64, prior as u64, commit as u64, count as u64],
+            );
             for e in entries.iter().take(count as usize) {
                 entry(out, e);
             }
         }
-        _ => {
-            let _ = write!(out, " {reply} {index}");
-        }
+        _ => numbers(out, &[reply as u64, index as u64]),
     }
-    let _ = writeln!(out);
+    piece(out, b"\n");
 }
 
 fn refused<W: Write>(out: &mut W, refusal: Refusal) {
-    let number = refusal.number();
-    let _ = writeln!(out, "n{number}");
+    piece(out, b"n");
+    number(out, refusal.number() as u64);
+    piece(out, b"\n");
 }
 
 // What the writer makes of the fields.
 fn frame<W: Write>(out: &mut W, f: Fields) {
     let mut room = [0u8; 256];
     match frame_writer::write(&mut room, f) {
-        Ok(bytes) => {
-            let _ = out.write_all(&room[..bytes]);
-        }
+        Ok(bytes) => piece(out, &room[..bytes]),
         Err(refusal) => refused(out, refusal),
     }
 }
@@ -90,10 +105,10 @@ fn read_full<R: Read>(input: &mut R, room: &mut [u8]) -> usize
     let mut filled = 0;
     for _ in 0..room.len() {
         let got = input.read(&mut room[filled..]).unwrap_or(0);
-        if got == 0 {
+        filled += got;
+        if got == 0 || filled == room.len() {
             break;
         }
-        filled += got;
     }
     filled
 }

@@ -26,6 +26,13 @@ pub record LentLog (terms orders : List ℕ) : Type 0 where
   pub terms_long : length terms ≡ log_limit
   pub orders_long : length orders ≡ log_limit
 
+-- What handing over a log requires: the lent lists and those that were made all have so many places.
+pub record HandsOver (terms orders terms-made orders-made : List ℕ) (last : ℕ) : Type 0 where
+  pub in_terms : last ≤ length terms
+  pub in_orders : last ≤ length orders
+  pub in_terms_made : last ≤ length terms-made
+  pub in_orders_made : last ≤ length orders-made
+
 -- ---- one line
 
 -- What the look at a line's rules requires: the log's terms are lent whole, and the line has no more entries than a line has.

@@ -1,10 +1,31 @@
 // Opening: the head, and the lines behind it as one block. The log, lent as C lends it, is made aside and handed over only when every line was good.
-ghost use Rattle.opening.specs.Calls.{Opens};
+ghost use Rattle.std.specs.Prelude.{◌≡◌, take};
+ghost use Rattle.digits.specs.Room.{over};
+ghost use Rattle.opening.specs.Calls.{HandsOver, Opens};
 
 use crate::blocks::{replay_head, replay_lines};
 use crate::{Opened, Unopened};
 use record::Record;
 use text::line_end;
+
+// The made log's entries, handed over. (One by one, both lists in one loop: the library's `copy_from_slice` is a call of C's `memcpy`, and the archive for C asks for
+// `memset` alone.)
+fn hand_over(
+    terms: &mut [u32],
+    orders: &mut [u64],
+    terms_made: &[u32],
+    orders_made: &[u64],
+    last: usize,
+)
+    requires { HandsOver terms.old orders.old terms_made.now orders_made.now last }
+    ensures terms_after { terms.new ≡ over terms.old 0 (take last terms_made.now) }
+    ensures orders_after { orders.new ≡ over orders.old 0 (take last orders_made.now) }
+{
+    for i in 0..last {
+        terms[i] = terms_made[i];
+        orders[i] = orders_made[i];
+    }
+}
 
 // A whole journal: the record and the bytes up to and with the last line feed.
 pub fn open(
@@ -29,9 +50,13 @@ pub fn open(
         });
     };
     let state = behind.state;
-    let last = state.last as usize;
-    terms[..last].copy_from_slice(&terms_made[..last]);
-    orders[..last].copy_from_slice(&orders_made[..last]);
+    hand_over(
+        terms,
+        orders,
+        &terms_made,
+        &orders_made,
+        state.last as usize,
+    );
     Ok(Opened {
         state,
         bytes: head + behind.bytes,

@@ -9,6 +9,6 @@ pub slice_bounds-room-end : goal.slice_bounds-room-end
 slice_bounds-room-end g c =
     omega (arith, written_fits _ _ c.in-Ok.ensures, c.write.auto.room)
 
-pub slice_bounds-write_all-end : goal.slice_bounds-write_all-end
-slice_bounds-write_all-end g c =
+pub slice_bounds-piece-end : goal.slice_bounds-piece-end
+slice_bounds-piece-end g c =
     sym (length-take-le c.in-Ok.bytes c.write.new.room (omega (arith, written_fits _ _ c.in-Ok.ensures, c.write.auto.room)))

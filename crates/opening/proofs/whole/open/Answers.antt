@@ -1,11 +1,11 @@
 -- No head, a line that breaks a rule, or the log handed over (`opens-found`).
 use native.Mathlib.Omega.{arith}
 use lib.ListN.{length-take}
-use Rattle.std.specs.Prelude.{◌≤◌, length}
+use Rattle.std.specs.Prelude.{◌≤◌}
 use Rattle.frames.specs.Limits.{log_limit}
 use Rattle.text.specs.LinesLaws.{first-most}
 use Rattle.opening.specs.CodeLaws.{headed, unheaded}
-use Rattle.opening.specs.OpenCode.{open_headless, block-room, block_few, block_opens, block_breaks, opens-headless, opens-broken, opens-found, handed_over}
+use Rattle.opening.specs.OpenCode.{open_headless, block-room, block_few, block_opens, block_breaks, opens-headless, opens-broken, opens-found}
 use Rattle.opening.proofs.whole.open.Goals as goal
 
 pub slice_bounds-replay_head-end : goal.slice_bounds-replay_head-end
@@ -38,11 +38,11 @@ returns-in_default-end c =
     let broken = block_breaks c.args.me c.args.bytes.now c.line_end-head.ensures head made c.replay_lines-behind.ensures in
     opens-broken c.args.me c.args.bytes.now c.args.terms.now c.args.orders.now _ (broken _ c.in_default-end.is)
 
-pub slice_bounds-copy_from_slice-end : goal.slice_bounds-copy_from_slice-end
-slice_bounds-copy_from_slice-end c =
+pub hand_over-requires : goal.hand_over-requires
+hand_over-requires c =
     let (head, made) = headed c.args.me _ c.in-Ok.start c.in-Ok.ensures in
     let fits = block-room c.args.me c.args.bytes.now c.line_end-head.ensures head made c.replay_lines-behind.ensures in
-    omega (arith, fits)
+    record { in_terms = omega (arith, fits); in_orders = omega (arith, fits); in_terms_made = omega (arith, fits); in_orders_made = omega (arith, fits) }
 
 pub returns : goal.returns
 returns c =
@@ -51,9 +51,5 @@ returns c =
     let fits : behind.result.state.last ≤ log_limit =
     block-room c.args.me c.args.bytes.now c.line_end-head.ensures head made behind.ensures in
     let opens = block_opens c.args.me c.args.bytes.now c.line_end-head.ensures head made behind.ensures c.in-Ok-end.is in
-    let in_terms : behind.result.state.last ≤ length behind.new.terms = omega (arith, fits) in
-    let in_orders : behind.result.state.last ≤ length behind.new.orders = omega (arith, fits) in
-    let terms = handed_over c.args.terms.now behind.new.terms _ c.copy_from_slice.ensures.after in_terms in
-    let orders = handed_over c.args.orders.now behind.new.orders _ c.copy_from_slice-2.ensures.after in_orders in
     opens-found c.args.me c.args.bytes.now c.args.terms.now c.args.orders.now behind.result.state behind.new.terms behind.new.orders _ opens
-    in_terms in_orders terms orders
+    (omega (arith, fits)) (omega (arith, fits)) c.hand_over.ensures.terms_after c.hand_over.ensures.orders_after
