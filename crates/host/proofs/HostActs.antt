@@ -1,7 +1,7 @@
 -- Whatever a host does with a box is something that happens at the site as which it stands. Assumes nothing.
-use Rattle.std.specs.Prelude.{ℕ, ◌+◌, ◌≤◌, ◌<◌, ◌≡◌, refl, true, ◌⊎◌, Err, is_ok}
+use Rattle.std.specs.Prelude.{ℕ, ◌+◌, ◌≤◌, ◌<◌, ◌≡◌, refl, true, ◌⊎◌}
 use Rattle.std.proofs.Math.Decide.{dec_le, dec_lt}
-use Rattle.std.proofs.Common.{arith, sym, ◌∙◌, true≢false, inl, inr, length-take, take-take}
+use Rattle.std.proofs.Common.{arith, sym, ◌∙◌, inl, inr, length-take, take-take}
 use Rattle.std.proofs.Math.Path.{ap}
 use mathlib.Core.List.{List, []}
 use Rattle.std.proofs.Math.ListN.{length, take}
@@ -20,7 +20,7 @@ use Rattle.safety.specs.Runs.{happened}
 use Rattle.safety.proofs.ParkOnDisk.{always_opens, started-opens}
 use Rattle.record.specs.declared.Record.{Record}
 use Rattle.record.specs.Calls.{state_of}
-use Rattle.opening.specs.declared.Unopened.TheVariants.{NoHead}
+use Rattle.opening.specs.Calls.{told_open}
 use Rattle.host.specs.Host.{Running, Box, on, off, Call, line_in, frames_in, Start, head_in, Opening, Back}
 use Rattle.host.specs.Host.{Acts, starts, start_fails, clears, steps, step_fails, is_refused, fails, comes_back, trims}
 use Rattle.host.specs.CallLaws.{call-comes, Stepped, call-steps, call-refused, start-fresh, open_found, back-opens}
@@ -38,8 +38,8 @@ pub record Follows (mask : ℕ) (a : Site) (i : ℕ) (b : Box) (left : List (Lis
   pub leave : left ≡ frames messages
 
 -- a file that opens does not open with 11, and by one without a head nobody comes back
-opens-not_11 : {mask i : ℕ} {disk : List ℕ} {s : Seat} → Down mask i disk s → (c : Opening i disk) → c.answer ≡ Err NoHead → ⊥
-opens-not_11 d c z = let found = open_found c _ _ d.opens in true≢false (ap is_ok (sym found.1 ∙ z))
+opens-not_11 : {mask i : ℕ} {disk : List ℕ} {s : Seat} → Down mask i disk s → (c : Opening i disk) → (told_open c.answer).refusal ≡ 11 → ⊥
+opens-not_11 d c z = let found = open_found c _ _ d.opens in omega (arith, sym (ap (λ a. (told_open a).refusal) found.1) ∙ z)
 
 torn-not-back : {mask i : ℕ} {disk : List ℕ} {s : Seat} → Unstarted mask i disk s → {b : Record} {terms orders : List ℕ} {place : ℕ}
     → Back i disk b terms orders place → ⊥

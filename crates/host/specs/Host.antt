@@ -1,6 +1,6 @@
 -- A host, and all that it may do with its boxes: our calls, as their contracts say them, its disks and its network. The numbers are those of docs/HOST.md, which
 -- asks for what stands beside them. Assumes nothing.
-use Rattle.std.specs.Prelude.{ℕ, ◌+◌, ◌≡◌, true, List, [], ◌++◌, ◌⊎◌, take, drop, Result, Ok, Err}
+use Rattle.std.specs.Prelude.{ℕ, ◌+◌, ◌≡◌, true, List, [], ◌++◌, ◌⊎◌, take, drop, Result, Ok}
 use Rattle.digits.specs.Room.{over}
 use Rattle.raft.specs.Event.{Event}
 use Rattle.journal.specs.Lines.{lines}
@@ -12,8 +12,7 @@ use Rattle.node.specs.declared.Node.{Node}
 use Rattle.node.specs.Outside.{Answer, Started, Starts, Calls}
 use Rattle.opening.specs.declared.Opened.{Opened}
 use Rattle.opening.specs.declared.Unopened.{Unopened}
-use Rattle.opening.specs.declared.Unopened.TheVariants.{NoHead}
-use Rattle.opening.specs.Calls.{Opens}
+use Rattle.opening.specs.Calls.{told_open, Opens}
 use Rattle.host.specs.Pieces.{Passed}
 
 -- ---- what a host has
@@ -97,7 +96,7 @@ pub data Back (i : ℕ) (disk : List ℕ) : Record → (terms orders : List ℕ)
 -- Box i, where all are started with one mask and these frames are in the network: the box before, behind it, and the frames that leave.
 pub data Acts (mask i : ℕ) (network : List (List ℕ)) : Box → Box → List (List ℕ) → Type 0 where
   -- 2, 10: a file that opens with 11 has no head; the box is started, and the head is the file's first line. Any arrays are lent to it from then on.
-  starts : (disk : List ℕ) (o : Opening i disk) → o.answer ≡ Err NoHead → (c : Start mask i) → c.answer.refusal ≡ 0 → (terms orders : List ℕ)
+  starts : (disk : List ℕ) (o : Opening i disk) → (told_open o.answer).refusal ≡ 11 → (c : Start mask i) → c.answer.refusal ≡ 0 → (terms orders : List ℕ)
       → Acts mask i network (off disk) (on (record {
         node = c.answer.node;
         terms = terms;
@@ -106,10 +105,10 @@ pub data Acts (mask i : ℕ) (network : List (List ℕ)) : Box → Box → List 
         place = c.answer.bytes;
       })) []
   -- Power fails when so many bytes of the head are written.
-  start_fails : (disk : List ℕ) (o : Opening i disk) → o.answer ≡ Err NoHead → (c : Start mask i) → c.answer.refusal ≡ 0 → (k : ℕ)
+  start_fails : (disk : List ℕ) (o : Opening i disk) → (told_open o.answer).refusal ≡ 11 → (c : Start mask i) → c.answer.refusal ≡ 0 → (k : ℕ)
       → Acts mask i network (off disk) (off (over disk 0 (take k (head_in c)))) []
   -- Before a head is written on such a file, what is on it may be cut off, or a part of it.
-  clears : (disk : List ℕ) (o : Opening i disk) → o.answer ≡ Err NoHead → (c : Start mask i) → c.answer.refusal ≡ 0 → (k : ℕ)
+  clears : (disk : List ℕ) (o : Opening i disk) → (told_open o.answer).refusal ≡ 11 → (c : Start mask i) → c.answer.refusal ≡ 0 → (k : ℕ)
       → Acts mask i network (off disk) (off (take k disk)) []
   -- 3: "The line first, then the state, then the messages": a call that answers 0, its line whole.
   steps : (b : Running) (c : Call network b) → c.answer.refusal ≡ 0
