@@ -25,7 +25,7 @@ fn numbers<W: Write>(out: &mut W, all: &[u64]) {
     }
 }
 
-// The entry's 24 digits.
+// The entry's 24 digits, one piece.
 fn entry<W: Write>(out: &mut W, e: &Entry) {
     let term = e.term;
     let order = e.order;

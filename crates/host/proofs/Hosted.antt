@@ -154,12 +154,10 @@ module _ (mask : ℕ) (h : Host) (a : Site) (g : Goes mask (built mask) a) (s : 
       go (off disk) e (inr u) = (disk, e, u)
 
   -- and opens with 11.
-  the_11 : (disk : List ℕ) → Unstarted mask i disk (a.seat i) → (the_opening i disk [] []).answer ≡ Err NoHead
+  the_11 : (disk : List ℕ) → Unstarted mask i disk (a.seat i) → (told_open (the_opening i disk [] []).answer).refusal ≡ 11
   the_11 disk u =
-      open_headless (the_opening i disk [] []) (ap (journal.opening i) u.torn ∙ torn-headless i mask u.count u.short)
-
-  told_11 : (disk : List ℕ) → Unstarted mask i disk (a.seat i) → (told_open (the_opening i disk [] []).answer).refusal ≡ 11
-  told_11 disk u = ap (λ x. (told_open x).refusal) (the_11 disk u)
+      ap (λ x. (told_open x).refusal)
+      (open_headless (the_opening i disk [] []) (ap (journal.opening i) u.torn ∙ torn-headless i mask u.count u.short))
 
   -- An act of it, as something that happens at the site:
   acts_off : {x : Box} → h.box i ≡ x → (b : Box) → Acts mask i h.network x b [] → (q : Seat) → Stands mask i b q → HostOn mask h (seated a i q [])
@@ -172,7 +170,7 @@ module _ (mask : ℕ) (h : Host) (a : Site) (g : Goes mask (built mask) a) (s : 
   start_hosted m z =
       let x = unstarted z in
       let c = the_start mask i (head i mask) in
-      acts_off x.1 _ (host.starts x.0 (the_opening i x.0 [] []) (told_11 x.0 x.2) c (start_0 mask i m) [] []) _
+      acts_off x.1 _ (host.starts x.0 (the_opening i x.0 [] []) (the_11 x.0 x.2) c (start_0 mask i m) [] []) _
       (started-stands mask a g i x.0 x.2 c (start_0 mask i m) [] [])
 
   -- one in which power fails,
@@ -181,7 +179,7 @@ module _ (mask : ℕ) (h : Host) (a : Site) (g : Goes mask (built mask) a) (s : 
   tear_hosted m z k l =
       let x = unstarted z in
       let c = the_start mask i (head i mask) in
-      acts_off x.1 _ (host.start_fails x.0 (the_opening i x.0 [] []) (told_11 x.0 x.2) c (start_0 mask i m) k) _
+      acts_off x.1 _ (host.start_fails x.0 (the_opening i x.0 [] []) (the_11 x.0 x.2) c (start_0 mask i m) k) _
       (torn-stands mask a g i x.0 x.2 c (start_0 mask i m) k l)
 
   -- and a cut.
@@ -189,7 +187,7 @@ module _ (mask : ℕ) (h : Host) (a : Site) (g : Goes mask (built mask) a) (s : 
       → HostOn mask h (seated a i (record { now = (a.seat i).now; disk = take ((a.seat i).place + k) (a.seat i).disk; place = (a.seat i).place }) [])
   clear_hosted m z k =
       let x = unstarted z in
-      acts_off x.1 _ (host.clears x.0 (the_opening i x.0 [] []) (told_11 x.0 x.2) (the_start mask i (head i mask)) (start_0 mask i m) k) _
+      acts_off x.1 _ (host.clears x.0 (the_opening i x.0 [] []) (the_11 x.0 x.2) (the_start mask i (head i mask)) (start_0 mask i m) k) _
       (cleared_stands mask a g i x.0 x.2 k)
 
 -- ---- what happens at a site

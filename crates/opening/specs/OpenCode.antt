@@ -1,7 +1,7 @@
 -- Opening a whole journal, as the code comes to it. Assumes nothing.
 use Rattle.std.specs.Prelude.{ℕ, ◌+◌, ◌-◌, ◌≤◌, ◌≡◌, Bool, ◌&&◌, List, [], ◌∷◌, ◌++◌, length, drop, Ok, Err}
 use Rattle.std.proofs.Math.Nat.{zero-add}
-use Rattle.std.proofs.Common.{arith, subst, ◌∙◌, true≢false, length-take, length-take-le, take_all, length-drop, eqb-true}
+use Rattle.std.proofs.Common.{arith, subst, ◌∙◌, true≢false, length-take, take_all, length-drop, eqb-true}
 use mathlib.Core.List.{append-nil}
 use Rattle.std.proofs.Math.Path.{refl, sym, ap}
 use Rattle.std.proofs.Math.Bool.{true, false}
@@ -159,11 +159,6 @@ module _ (me : ℕ) (bytes : List ℕ) {end : ℕ} (e : end ≡ 0 + first_line (
             from_here ∙ stop.on whole 2 [] ∙ ap broken (omega (arith, stop.number))
 
 -- ---- the answer
-
--- Some of what was made, copied to a list's start, is written over it.
-pub handed_over : (d made : List ℕ) (n : ℕ) {x : List ℕ} → x ≡ take n made → n ≤ length made → x ++ drop n d ≡ over d 0 (take n made)
-unfolding over
-handed_over d made n e h = rw (e, length-take-le n made h, zero-add n) refl
 
 module _ (me : ℕ) (bytes terms orders : List ℕ) where
   -- no head

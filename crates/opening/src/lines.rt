@@ -1,6 +1,4 @@
-// A journal's lines: their form, their fields, and the rules that one keeps behind the record so far. The form is a definition, which its proof may open.
-#![tactic(auto, unfolding(journal::specs::Opening::is_head, journal::specs::Lines::head_shaped, journal::specs::Lines::line_shaped, journal::specs::Lines::box_in, journal::specs::Lines::mask_in, journal::specs::Lines::count_in, frames::specs::Reading::is_line, frames::specs::Reading::version, frames::specs::Reading::kind))]
-
+// A journal's lines: their form, their fields, and the rules that one keeps behind the record so far. Each form is a definition, which its proof opens.
 ghost use Rattle.std.specs.Prelude.{◌≡◌, cond, List, ℕ, ◌≤◌, Some, None};
 ghost use Rattle.frames.specs.Limits.{entry_limit};
 ghost use Rattle.record.specs.Calls.{state_of};
@@ -14,6 +12,7 @@ use record::Record;
 use rules::{is_vote, term_at};
 
 // The form of a head: one line, version 01, kind 11, 4 bytes long.
+#[tactic(auto, unfolding(journal::specs::Lines::head_shaped, frames::specs::Reading::is_line, frames::specs::Reading::version, frames::specs::Reading::kind))]
 pub fn is_head_shaped(s: &[u8]) -> bool
     ensures { result ≡ head_shaped s.now }
 {
@@ -27,6 +26,7 @@ pub fn is_head_shaped(s: &[u8]) -> bool
 }
 
 // The mask of a head for the box asked for, a membership that holds it.
+#[tactic(auto, unfolding(journal::specs::Opening::is_head, journal::specs::Lines::head_shaped, journal::specs::Lines::box_in, journal::specs::Lines::mask_in, frames::specs::Reading::is_line))]
 pub fn head_mask(me: u8, s: &[u8]) -> Option<u8>
     ensures { result ≡ cond (is_head me s.now) (Some (mask_in s.now)) None }
 {
@@ -41,6 +41,7 @@ pub fn head_mask(me: u8, s: &[u8]) -> Option<u8>
 }
 
 // The form of a line: one line, version 01, kind 10, as long as its count tells.
+#[tactic(auto, unfolding(journal::specs::Lines::line_shaped, journal::specs::Lines::count_in, frames::specs::Reading::is_line, frames::specs::Reading::version, frames::specs::Reading::kind))]
 pub fn is_shaped(s: &[u8]) -> bool
     ensures { result ≡ line_shaped s.now }
 {
@@ -56,6 +57,7 @@ pub fn is_shaped(s: &[u8]) -> bool
 }
 
 // The fields of a line, each from its place.
+#[tactic(auto, unfolding(journal::specs::Lines::line_shaped, journal::specs::Lines::count_in, frames::specs::Reading::is_line))]
 pub fn line_fields(s: &[u8]) -> LineFields
     requires { Readable s.now }
     ensures result_value { line_of result ≡ line_in s.now }
